@@ -1,5 +1,7 @@
 // Run files by RFC 4180, read over the caller's bytes: nothing is copied and nothing is allocated.
 
+// A byte among others.
+mod bytes;
 // Whole numerals.
 mod numeral;
 // Where a field stands, and why a reading is refused.
@@ -17,6 +19,7 @@ mod heading;
 // A data record: the stay, and then the values.
 mod numbers;
 
+pub use bytes::contains_byte;
 pub use cut::Next;
 pub use fault::Position;
 pub use fault::RecordFault;

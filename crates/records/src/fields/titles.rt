@@ -1,11 +1,11 @@
 // Reading the header.
 ghost use mathlib.Core.Path.{_≡_};
 ghost use Rattle.std.specs.Vec.{made};
-ghost use Rattle.records.specs.Bytes.{quote};
 ghost use Rattle.records.specs.Cursor.{fieldAt, moved};
-ghost use Rattle.records.specs.Headers.{behindHeader, holds, namesAt, title, titlesAt, titlesOf};
+ghost use Rattle.records.specs.Headers.{behindHeader, namesAt, title, titlesAt, titlesOf};
 ghost use Rattle.records.specs.RecordFields.{readBy, behindRow, gathered};
 ghost use Rattle.records.specs.Told.{cursor, toldTitle, toldTitles, toldHeader};
+use super::super::bytes::contains_byte;
 use super::super::fault::RecordFault;
 use super::super::fault::RecordFaultFromText;
 use super::super::heading::Header;
@@ -15,17 +15,6 @@ use super::Fields;
 
 // The most bytes that a run file may have.
 const LARGEST_FILE: usize = 65_536;
-
-fn has_quote(text: &[u8]) -> bool
-    ensures { λ r. ⌜ r ≡ holds (now (text .entry)) quote ⌝ }
-{
-    for b in text {
-        if *b == b'"' {
-            return true;
-        }
-    }
-    false
-}
 
 impl<'a> Fields<'a> {
     // The next field, in which no quote may stand.
@@ -37,7 +26,7 @@ impl<'a> Fields<'a> {
         let Some(field) = self.next_field()? else {
             return Ok(None);
         };
-        if has_quote(field.text) {
+        if contains_byte(field.text, b'"') {
             return Err(RecordFault::Quote(field.at));
         }
         Ok(Some(field))

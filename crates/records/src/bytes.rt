@@ -1,0 +1,14 @@
+// A byte among others.
+ghost use mathlib.Core.Path.{_≡_};
+ghost use Rattle.records.specs.Headers.{holds};
+
+pub fn contains_byte(bytes: &[u8], byte: u8) -> bool
+    ensures { λ r. ⌜ r ≡ holds (now (bytes .entry)) byte ⌝ }
+{
+    for b in bytes {
+        if *b == byte {
+            return true;
+        }
+    }
+    false
+}

@@ -1,0 +1,4 @@
+pub mod Ranges
+pub mod Statements
+pub mod Surveys
+pub mod Told
