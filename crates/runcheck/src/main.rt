@@ -3,8 +3,13 @@ use std::error::AnyError;
 use std::fs;
 use std::io::Write;
 
+const FILE: &str = "run.csv";
+
 fn run(rt: &LibcRuntime) -> Result<(), AnyError> {
-    let bytes = fs::read(rt, "run.csv")?;
+    let bytes = match fs::read(rt, FILE) {
+        Ok(bytes) => bytes,
+        Err(e) => return Err(format!(rt.alloc(), "{FILE}: {e}")?.into()),
+    };
     let lines = survey::statement(rt.alloc(), bytes.as_slice())?;
     rt.stdout().write_all(lines.as_slice())?;
     Ok(())

@@ -32,7 +32,7 @@ impl Summary {
     }
 
     // The range of a column.
-    pub fn range(&self, column: usize) -> Option<Range>
+    pub(crate) fn range(&self, column: usize) -> Option<Range>
         ensures { λ r. ⌜ r ≡ nth (now (self .entry) .ranges) column ⌝ }
     {
         let ranges: &[Range] = &self.ranges;
