@@ -4,12 +4,14 @@ use mathlib.Core.List.{List, [], _∷_}
 use Prim.Native.Nat.{ℕ, _+_}
 use lib.Dec.{eqb}
 use lib.IntN.{ℤ, pos}
+use lib.ListN.{drop}
 use Rattle.std.specs.Options.{valueOr, isSome}
 use Rattle.std.specs.Results.{isOk}
 use Rattle.std.specs.declared.option.Option.{Option}
 use Rattle.std.specs.declared.option.Option.the-variants.{Some, None}
 use Rattle.std.specs.declared.result.Result.{Result}
 use Rattle.std.specs.declared.result.Result.the-variants.{Ok, Err}
+use Rattle.std.specs.shelf.Maps.{nth}
 use Rattle.records.specs.Cursor.{Cursor, Seen}
 use Rattle.records.specs.Firsts.{Firsts, firstsOf, withOne}
 use Rattle.records.specs.Numerals.{numeral, limited}
@@ -75,6 +77,13 @@ behindRecord bs c = cond (isOk (recordAt bs c)) (cond (c .ended) c (behindRow (e
 
 abbrev pub numbersOf : Record → Firsts ℤ
 numbersOf r = firsts (r .fields)
+
+-- the stay, and the values that are kept
+abbrev pub stayOf : Firsts ℤ → ℤ
+stayOf f = valueOr (nth (f .values) 0) (pos 0)
+
+abbrev pub valuesOf : Firsts ℤ → List ℤ
+valuesOf f = drop 1 (f .values)
 
 -- a record must have the stay and one value for each of the header's columns
 abbrev pub widthFault : Firsts ℤ → ℕ → Result Unit RecordFault

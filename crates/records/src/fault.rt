@@ -1,6 +1,6 @@
 // Where a field stands, and why a reading is refused.
 ghost use mathlib.Core.Path.{_≡_};
-ghost use Rattle.records.specs.Refusals.{refusal};
+ghost use Rattle.records.specs.Refusals.{numberOf, positionOf, refusal};
 ghost use Rattle.records.specs.declared.fault.RecordFault.the-variants.{Text};
 
 // Where a field stands: the number of its record in the file, its own number in that record, and the index of its first byte, all from 0.
@@ -9,6 +9,15 @@ pub struct Position {
     pub row: usize,
     pub column: usize,
     pub byte: usize,
+}
+
+impl Position {
+    // Where a file begins.
+    pub const START: Position = Position {
+        row: 0,
+        column: 0,
+        byte: 0,
+    };
 }
 
 // What begins there is no field by RFC 4180.
@@ -51,16 +60,35 @@ pub struct Refusal {
 }
 
 impl RecordFault {
+    // Where the faulty field stands, or the record for its width.
+    pub fn at(self) -> Position
+        ensures { λ r. ⌜ r ≡ positionOf self ⌝ }
+    {
+        match self {
+            RecordFault::TooLong => Position::START,
+            RecordFault::Text(fault) => fault.at,
+            RecordFault::Quote(at) | RecordFault::Numeral(at) | RecordFault::Limit(at) => at,
+            RecordFault::Width(at) | RecordFault::Name(at) => at,
+        }
+    }
+
+    fn number(self) -> u8
+        ensures { λ r. ⌜ r ≡ numberOf self ⌝ }
+    {
+        match self {
+            RecordFault::TooLong => 1,
+            RecordFault::Limit(_) => 3,
+            RecordFault::Text(_) | RecordFault::Quote(_) | RecordFault::Numeral(_) => 8,
+            RecordFault::Width(_) | RecordFault::Name(_) => 9,
+        }
+    }
+
     pub fn refusal(self) -> Refusal
         ensures { λ r. ⌜ r ≡ refusal self ⌝ }
     {
-        let (number, place) = match self {
-            RecordFault::TooLong => (1, 0),
-            RecordFault::Text(fault) => (8, fault.at.byte),
-            RecordFault::Quote(at) | RecordFault::Numeral(at) => (8, at.byte),
-            RecordFault::Limit(at) => (3, at.byte),
-            RecordFault::Width(at) | RecordFault::Name(at) => (9, at.byte),
-        };
-        Refusal { number, place }
+        Refusal {
+            number: self.number(),
+            place: self.at().byte,
+        }
     }
 }

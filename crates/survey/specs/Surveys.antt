@@ -3,18 +3,16 @@ use mathlib.Core.Path.{_≡_}
 use mathlib.Core.List.{List, [], _∷_}
 use Prim.Native.Nat.{ℕ, zero, suc, _+_}
 use lib.IntN.{ℤ, pos, _+ℤ_}
-use lib.ListN.{length, drop, replicate}
+use lib.ListN.{length, replicate}
 use Rattle.std.specs.Iters.{folded}
-use Rattle.std.specs.Options.{valueOr}
 use Rattle.std.specs.declared.option.Option.{Option}
 use Rattle.std.specs.declared.option.Option.the-variants.{Some, None}
 use Rattle.std.specs.declared.result.Result.{Result}
 use Rattle.std.specs.declared.result.Result.the-variants.{Ok, Err}
-use Rattle.std.specs.shelf.Maps.{nth}
 use Rattle.records.specs.Cursor.{Cursor, start}
 use Rattle.records.specs.Firsts.{Firsts}
 use Rattle.records.specs.Headers.{namesAt, behindHeader}
-use Rattle.records.specs.Records.{recordAt, behindRecord, widthFault}
+use Rattle.records.specs.Records.{recordAt, behindRecord, stayOf, valuesOf, widthFault}
 use Rattle.records.specs.declared.fault.RecordFault.{RecordFault}
 use Rattle.survey.specs.Ranges.{noRange, widened}
 use Rattle.survey.specs.declared.summary.Summary.{Summary}
@@ -22,12 +20,6 @@ use Rattle.survey.specs.declared.summary.Summary.{Summary}
 -- the number of states, their ticks in all, and the ranges of the sixteen columns that there may be
 abbrev pub noSummary : Summary
 noSummary = record { states = 0; ticks = pos 0; ranges = replicate 16 noRange }
-
-abbrev pub stayOf : Firsts ℤ → ℤ
-stayOf f = valueOr (nth (f .values) 0) (pos 0)
-
-abbrev pub valuesOf : Firsts ℤ → List ℤ
-valuesOf f = drop 1 (f .values)
 
 abbrev pub withRecord : Summary → Firsts ℤ → Summary
 withRecord s f = record { states = s .states + 1; ticks = s .ticks +ℤ stayOf f; ranges = widened (s .ranges) (valuesOf f) }

@@ -3,9 +3,9 @@ ghost use mathlib.Core.Path.{_≡_};
 ghost use Prim.Native.Nat.{_*_, _^_, _<_, _≤_};
 ghost use lib.IntN.{natAbs};
 ghost use Rattle.std.specs.shelf.Maps.{nth};
-ghost use Rattle.records.specs.Records.{numbersOf};
+ghost use Rattle.records.specs.Records.{numbersOf, valuesOf};
 ghost use Rattle.survey.specs.Ranges.{widened};
-ghost use Rattle.survey.specs.Surveys.{noSummary, withRecord, valuesOf};
+ghost use Rattle.survey.specs.Surveys.{noSummary, withRecord};
 use super::range::Range;
 use records::Record;
 
@@ -51,7 +51,7 @@ impl Summary {
         ensures small { λ _. ⌜ natAbs (now (self .exit) .ticks) ≤ now (self .exit) .states * 2 ^ 63 ⌝ }
     {
         self.states += 1;
-        self.ticks += row.number(0).unwrap_or(0) as i128;
+        self.ticks += row.stay() as i128;
         widen(&mut self.ranges, row);
     }
 }

@@ -20,14 +20,9 @@ impl<'a> Fields<'a> {
         ensures place { λ r. ⌜ cursor r ≡ start ⌝ }
         ensures bytes { λ r. ⌜ r .bytes ≡ bytes .entry ⌝ }
     {
-        let at = Position {
-            row: 0,
-            column: 0,
-            byte: 0,
-        };
         Fields {
             bytes,
-            at,
+            at: Position::START,
             ended: false,
         }
     }

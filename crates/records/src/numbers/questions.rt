@@ -1,7 +1,7 @@
 // What a record says.
 ghost use mathlib.Core.Path.{_≡_};
 ghost use Rattle.std.specs.shelf.Maps.{nth};
-ghost use Rattle.records.specs.Records.{numbersOf, widthFault};
+ghost use Rattle.records.specs.Records.{numbersOf, stayOf, valuesOf, widthFault};
 use super::super::fault::Position;
 use super::super::fault::RecordFault;
 use super::Record;
@@ -26,6 +26,26 @@ impl Record {
         ensures { λ r. ⌜ r ≡ nth (numbersOf (now (self .entry)) .values) field ⌝ }
     {
         self.fields.value(field)
+    }
+
+    // The number in the first field.
+    pub fn stay(&self) -> i64
+        ensures { λ r. ⌜ r ≡ stayOf (numbersOf (now (self .entry))) ⌝ }
+    {
+        self.number(0).unwrap_or(0)
+    }
+
+    // The kept numbers behind the stay.
+    pub fn values(&self) -> &[i64]
+        ensures { λ r. ⌜ now r ≡ valuesOf (numbersOf (now (self .entry))) ⌝ }
+    {
+        let numbers: &[i64] = &self.fields.values;
+        let end = self.fields.len();
+        if end > 1 {
+            &numbers[1..end]
+        } else {
+            &numbers[0..0]
+        }
     }
 
     // Where that field stands.

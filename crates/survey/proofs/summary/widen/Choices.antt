@@ -1,9 +1,8 @@
 use mathlib.Core.Path.{_≡_}
 use mathlib.Core.List.{_++_}
 use lib.ListN.{take, drop}
-use Rattle.records.specs.Records.{numbersOf}
+use Rattle.records.specs.Records.{numbersOf, valuesOf}
 use Rattle.survey.specs.Ranges.{widened}
-use Rattle.survey.specs.Surveys.{valuesOf}
 use Rattle.survey.proofs.summary.widen.Given as given
 
 abbrev pub Inv-loop-column : given.InvT-loop-column
