@@ -115,7 +115,7 @@ fn field_size(bytes: &[u8]) -> Option<usize>
 }
 
 // The field in front.
-pub fn cut_field(bytes: &[u8]) -> Option<Cut>
+pub(crate) fn cut_field(bytes: &[u8]) -> Option<Cut>
     ensures value { λ r. ⌜ r ≡ cut (now (bytes .entry)) ⌝ }
     ensures bound { λ r. ⌜ found r (Lies (now (bytes .entry))) ⌝ }
 {

@@ -20,7 +20,7 @@ pub struct Kept<T> {
 }
 
 impl<T: Copy> Kept<T> {
-    pub fn new(at: Position, filler: T) -> Kept<T>
+    pub(crate) fn new(at: Position, filler: T) -> Kept<T>
         ensures { λ r. ⌜ firsts r ≡ none at ⌝ }
     {
         Kept {
@@ -32,7 +32,7 @@ impl<T: Copy> Kept<T> {
     }
 
     // How many fields have room here. As slices the arrays tell their lengths to the proof.
-    pub fn room(&self) -> usize
+    pub(crate) fn room(&self) -> usize
         ensures room { λ r. ⌜ r ≡ 17 ⌝ }
         ensures values { λ r. ⌜ length (now (self .entry) .values) ≡ 17 ⌝ }
         ensures places { λ r. ⌜ length (now (self .entry) .places) ≡ 17 ⌝ }
@@ -43,7 +43,7 @@ impl<T: Copy> Kept<T> {
     }
 
     // How many fields are kept.
-    pub fn len(&self) -> usize
+    pub(crate) fn len(&self) -> usize
         ensures values { λ r. ⌜ r ≡ length (firsts (now (self .entry)) .values) ⌝ }
         ensures places { λ r. ⌜ r ≡ length (firsts (now (self .entry)) .places) ⌝ }
         ensures bound { λ r. ⌜ r ≤ 17 ⌝ }
@@ -51,7 +51,7 @@ impl<T: Copy> Kept<T> {
         self.count.min(self.room())
     }
 
-    pub fn value(&self, i: usize) -> Option<T>
+    pub(crate) fn value(&self, i: usize) -> Option<T>
         ensures { λ r. ⌜ r ≡ nth (firsts (now (self .entry)) .values) i ⌝ }
     {
         if i < self.len() {
@@ -61,7 +61,7 @@ impl<T: Copy> Kept<T> {
         }
     }
 
-    pub fn place(&self, i: usize) -> Option<Position>
+    pub(crate) fn place(&self, i: usize) -> Option<Position>
         ensures { λ r. ⌜ r ≡ nth (firsts (now (self .entry)) .places) i ⌝ }
     {
         if i < self.len() {
@@ -71,7 +71,7 @@ impl<T: Copy> Kept<T> {
         }
     }
 
-    pub fn keep(&mut self, value: T, place: Position)
+    pub(crate) fn keep(&mut self, value: T, place: Position)
         requires { ⌜ now self .count + 1 < 2 ^ 64 ⌝ }
         ensures { λ _. ⌜ firsts (now (self .exit)) ≡ withOne (firsts (now (self .entry))) value place ⌝ }
     {

@@ -12,7 +12,7 @@ use super::Header;
 // The longest name, in bytes.
 const LONGEST_NAME: usize = 64;
 
-pub fn same(a: &[u8], b: &[u8]) -> bool
+pub(crate) fn same(a: &[u8], b: &[u8]) -> bool
     ensures { λ r. ⌜ r ≡ sameBytes (now (a .entry)) (now (b .entry)) ⌝ }
 {
     a == b

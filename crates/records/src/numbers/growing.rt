@@ -11,7 +11,7 @@ use super::Entry;
 use super::Record;
 
 impl Draft {
-    pub fn new(at: Position) -> Draft
+    pub(crate) fn new(at: Position) -> Draft
         ensures { λ r. ⌜ drafted r ≡ draftOf at [] ⌝ }
     {
         Draft {
@@ -20,7 +20,7 @@ impl Draft {
         }
     }
 
-    pub fn add(&mut self, entry: Entry)
+    pub(crate) fn add(&mut self, entry: Entry)
         requires { ⌜ now self .kept .count + 1 < 2 ^ 64 ⌝ }
         ensures { λ _. ⌜ drafted (now (self .exit)) ≡ withEntry (drafted (now (self .entry))) entry ⌝ }
     {
@@ -28,7 +28,7 @@ impl Draft {
         self.beyond = first_beyond(self.beyond, entry);
     }
 
-    pub fn done(self) -> Record
+    pub(crate) fn done(self) -> Record
         ensures { λ r. ⌜ r .fields ≡ self .kept ⌝ }
     {
         Record { fields: self.kept }
