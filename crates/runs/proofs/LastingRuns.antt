@@ -8,7 +8,7 @@ use lib.IntN.{ℤ}
 use Rattle.std.specs.declared.option.Option.{Option}
 use Rattle.std.specs.declared.option.Option.the-variants.{Some, None}
 use Rattle.std.proofs.shelf.Lists.{append-assoc, append-nil}
-use Rattle.runs.specs.Calls.{Lasting, Later, Step, afterSteps, closes, feeds, stepped}
+use Rattle.runs.specs.Calls.{Lasting, Later, Step, closes, feeds, stepped}
 use Rattle.runs.specs.Feeding.{after, closeRefusal, fed, feedRefusal, offered, withState}
 use Rattle.runs.specs.Runs.{Meaning, Run, State, ended}
 use Rattle.runs.specs.declared.refusal.Refusal.{Refusal}

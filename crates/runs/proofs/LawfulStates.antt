@@ -1,6 +1,6 @@
 -- What a state that is not refused has. Assumes nothing.
 use mathlib.Core.Path.{_≡_, refl}
-use mathlib.Core.Bool.{Bool, true, false, cond}
+use mathlib.Core.Bool.{true}
 use mathlib.Core.List.{List, [], _∷_, _++_}
 use Prim.Native.Nat.{ℕ, _≤_, _<_}
 use native.Mathlib.Omega.{arith}
@@ -8,21 +8,21 @@ use lib.Dec.{eqb, leb}
 use lib.IntN.{ℤ, pos, negsuc, natAbs}
 use lib.ListN.{length, getD}
 use Rattle.std.specs.Text.{within}
-use Rattle.std.specs.declared.option.Option.{Option}
-use Rattle.std.specs.declared.option.Option.the-variants.{Some, None}
+use Rattle.std.specs.declared.option.Option.the-variants.{None}
 use Rattle.std.proofs.shelf.Elements.{all-getD}
 use Rattle.std.proofs.shelf.Tests.{and-from, and-parts, cases-bool, eq-eqb, leb-true}
 use Rattle.std.proofs.shelf.Ways.{tells}
 use Rattle.runs.specs.Cells.{areLawful, isLawful, magnitudes-lawful}
-use Rattle.runs.specs.Feeding.{allWithin, feedRefusal, full, offered, orElse, stayWithin, unlawful}
-use Rattle.runs.specs.Runs.{Meaning, State, ended}
-use Rattle.runs.specs.declared.refusal.Refusal.{Refusal}
-use Rattle.runs.specs.declared.refusal.Refusal.the-variants as refusal
+use Rattle.runs.specs.Feeding.{allWithin, offered, stayWithin, unlawful}
+use Rattle.runs.specs.Runs.{State}
 use Rattle.runs.specs.declared.shape.Shape.{Shape}
 
 stay-magnitude : (longest : ℕ) (stay : ℤ) → stayWithin longest stay ≡ true → within 1 longest (natAbs stay) ≡ true
 stay-magnitude longest (pos n) e = e
 stay-magnitude longest (negsuc n) e = cc
+
+pub magnitude-within : (largest : ℕ) (values : List ℤ) (v : ℕ) → allWithin largest values ≡ true → v < length values → natAbs (getD values v (pos 0)) ≤ largest
+magnitude-within largest values v within there = all-getD (λ z. natAbs z ≤ largest) values v (pos 0) there (magnitudes-lawful largest values within)
 
 module _ (shape : Shape) (largest : ℕ) (stay : ℤ) (values : List ℤ) (lawful : unlawful shape largest stay values ≡ None) where
   pub lawful-width : length values ≡ shape .width
@@ -38,7 +38,7 @@ module _ (shape : Shape) (largest : ℕ) (stay : ℤ) (values : List ℤ) (lawfu
   stay-within = leb-true _ _ (and-parts (leb 1 (natAbs stay)) _ (stay-magnitude (shape .longest) stay lawful-stay) .1)
 
   pub value-within : (v : ℕ) → v < length values → natAbs (getD values v (pos 0)) ≤ largest
-  value-within v there = all-getD (λ z. natAbs z ≤ largest) values v (pos 0) there (magnitudes-lawful largest values lawful-values)
+  value-within v there = magnitude-within largest values v lawful-values there
 
   pub offered-lawful : isLawful shape largest (offered stay values) ≡ true
   offered-lawful =
@@ -50,16 +50,3 @@ lawful-more shape largest [] s all one = and-from (isLawful shape largest s) tru
 lawful-more shape largest (t ∷ ss) s all one =
     let p = and-parts (isLawful shape largest t) (areLawful shape largest ss) all in
     and-from (isLawful shape largest t) _ (p .0) (lawful-more shape largest ss s (p .1) one)
-
-no-refusal : (b : Bool) (o p : Option Refusal) → cond b (Some refusal.Ended) (orElse o p) ≡ None → (o ≡ None) × (p ≡ None)
-no-refusal true o p e = (cc, cc)
-no-refusal false (Some r) p e = (cc, cc)
-no-refusal false None p e = (refl, e)
-
--- a feed that is not refused offers a lawful state, and there is room for it
-module _ (largest free need : ℕ) (m : Meaning) (stay : ℤ) (values : List ℤ) (taken : feedRefusal largest free need m stay values ≡ None) where
-  pub fed-lawful : unlawful (m .run .shape) largest stay values ≡ None
-  fed-lawful = no-refusal (ended (m .run .mark)) (unlawful (m .run .shape) largest stay values) (full free need) taken .0
-
-  pub fed-room : need ≤ free
-  fed-room = let h = no-refusal (ended (m .run .mark)) (unlawful (m .run .shape) largest stay values) (full free need) taken .1 in grind (arith, tells)

@@ -1,6 +1,6 @@
 -- What the recorders with cells of their own share: which cells are free, what a state needs, and why their meaning is sound. Assumes nothing.
 use mathlib.Core.Path.{_≡_, refl}
-use mathlib.Core.Bool.{Bool, true, false, cond, _&&_}
+use mathlib.Core.Bool.{Bool, true, cond, _&&_}
 use mathlib.Core.List.{List, [], _∷_}
 use Prim.Native.Nat.{ℕ, _+_, _-_, _≤_}
 use lib.Dec.{eqb, leb}
@@ -13,7 +13,7 @@ use Rattle.std.specs.declared.option.Option.the-variants.{Some, None}
 use Rattle.std.specs.shelf.Lists.{All}
 use Rattle.std.proofs.shelf.Tests.{and-parts, leb-true, eqb-true}
 use Rattle.runs.specs.Feeding.{Priced, after, allWithin, unlawful}
-use Rattle.runs.specs.Runs.{Lawful, Meaning, Run, State}
+use Rattle.runs.specs.Runs.{Lawful, Meaning, State}
 use Rattle.runs.specs.declared.head.Head.{Head}
 use Rattle.runs.specs.declared.refusal.Refusal.{Refusal}
 use Rattle.runs.specs.declared.shape.Shape.{Shape}

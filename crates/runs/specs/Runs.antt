@@ -43,12 +43,12 @@ endures Closed = true
 abbrev pub stayAt : List State → ℕ → Option ℕ
 stayAt ss i = mapped (λ s. s .stay) (nth ss i)
 
-abbrev pub valueOf : Option State → ℕ → Option ℤ
-valueOf None v = None
-valueOf (Some s) v = nth (s .values) v
+abbrev pub valueIn : Option State → ℕ → Option ℤ
+valueIn None v = None
+valueIn (Some s) v = nth (s .values) v
 
 abbrev pub valueAt : List State → ℕ → ℕ → Option ℤ
-valueAt ss i v = valueOf (nth ss i) v
+valueAt ss i v = valueIn (nth ss i) v
 
 -- how many ticks some states last
 abbrev pub ticks : List State → ℕ

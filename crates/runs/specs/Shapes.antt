@@ -1,7 +1,7 @@
 -- Which shapes are lawful, the lawful shape nearest to a given one, and how a run starts. Assumes nothing.
 use mathlib.Core.Bool.{cond, not}
 use mathlib.Core.List.{[]}
-use Prim.Native.Nat.{ℕ, min, max}
+use Prim.Native.Nat.{min, max}
 use Rattle.std.specs.Text.{within}
 use Rattle.std.specs.declared.option.Option.{Option}
 use Rattle.std.specs.declared.option.Option.the-variants.{Some, None}

@@ -1,6 +1,6 @@
 // Late views: the run of any recorder without its first states.
 ghost use mathlib.Core.Path.{_≡_};
-ghost use Prim.Native.Nat.{min};
+ghost use Prim.Native.Nat.{min, _+_, _-_, _^_};
 ghost use Rattle.runs.specs.Views.{view-sound, viewed};
 use super::recorder::Recorder;
 use super::refusal::Refusal;
@@ -25,6 +25,13 @@ impl<R: Recorder> Late<R> {
             below,
             passed: k.min(MOST_PASSED),
         }
+    }
+
+    // Which state below is state i of the view. Where the sum saturates, no state is there.
+    fn state_below(&self, i: usize) -> usize
+        ensures { λ r. ⌜ r ≡ min (now (self .entry) .passed + i) (2 ^ 64 - 1) ⌝ }
+    {
+        self.passed.saturating_add(i)
     }
 }
 
@@ -73,13 +80,12 @@ pub impl<R: Recorder> Recorder for Late<R> as LateRecorder {
         self.below.need(stay, values)
     }
 
-    // Where the sum saturates, no state is there.
     fn stay(&self, i: usize) -> Option<u64> {
-        self.below.stay(self.passed.saturating_add(i))
+        self.below.stay(self.state_below(i))
     }
 
     fn value(&self, i: usize, v: usize) -> Option<i64> {
-        self.below.value(self.passed.saturating_add(i), v)
+        self.below.value(self.state_below(i), v)
     }
 
     fn feed(&mut self, stay: i64, values: &[i64]) -> Result<(), Refusal> {

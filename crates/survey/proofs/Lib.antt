@@ -1,3 +1,5 @@
 pub mod Appending
-pub mod Summing
+pub mod FedRuns
+pub mod StateSums
+pub mod WholeFile
 pub mod Widening

@@ -10,9 +10,9 @@ use Rattle.std.specs.declared.result.Result.{Result}
 use Rattle.std.specs.declared.result.Result.the-variants.{Ok, Err}
 use Rattle.records.specs.Bytes.{comma, quote}
 use Rattle.records.specs.Headers.{holds}
-use Rattle.records.specs.Refusals.{refusal}
-use Rattle.records.specs.declared.fault.RecordFault.{RecordFault}
 use Rattle.records.specs.declared.fault.Refusal.{Refusal}
+use Rattle.runfiles.specs.Faults.{refusalOf}
+use Rattle.runfiles.specs.declared.fault.RunFault.{RunFault}
 use Rattle.survey.specs.Surveys.{Surveyed, surveyOf}
 use Rattle.survey.specs.declared.range.Range.{Range}
 use Rattle.survey.specs.declared.summary.Summary.{Summary}
@@ -39,18 +39,20 @@ rangeLines none [] rs = []
 rangeLines none (n ∷ ns) [] = []
 rangeLines none (n ∷ ns) (r ∷ rs) = rangeLine none n r ++ rangeLines none ns rs
 
-abbrev pub sumLines : Summary → List ℕ
-sumLines s = codes "\r\nstates," ++ (decimal (s .states) ++ (codes "\r\nticks," ++ (signed (s .ticks) ++ crlf)))
+-- the states, their ticks, and the rows that keep them: the free cells, all cells, and the longest stay
+abbrev pub sumLines : Summary → ℕ → List ℕ
+sumLines s free =
+    codes "\r\nstates," ++ (decimal (s .states) ++ (codes "\r\nticks," ++ (decimal (s .ticks) ++ (codes "\r\nrows," ++ (decimal free ++ codes ",16384,100000\r\n")))))
 
 abbrev pub heldLines : Surveyed → List ℕ
-heldLines s = codes "columns" ++ columnNames (s .names) ++ sumLines (s .summary) ++ rangeLines (eqb (s .summary .states) 0) (s .names) (s .summary .ranges)
+heldLines s = codes "columns" ++ columnNames (s .names) ++ sumLines (s .summary) (s .free) ++ rangeLines (eqb (s .summary .states) 0) (s .names) (s .summary .ranges)
 
 abbrev pub refusedLine : Refusal → List ℕ
 refusedLine r = codes "refused," ++ (decimal (r .number) ++ (codes "," ++ (decimal (r .place) ++ crlf)))
 
-abbrev pub statementBy : Result Surveyed RecordFault → List ℕ
+abbrev pub statementBy : Result Surveyed RunFault → List ℕ
 statementBy (Ok s) = heldLines s
-statementBy (Err f) = refusedLine (refusal f)
+statementBy (Err f) = refusedLine (refusalOf (f .cause))
 
 abbrev pub statementOf : List ℕ → List ℕ
-statementOf bs = statementBy (surveyOf bs)
+statementOf bs = statementBy (surveyOf 16384 bs)

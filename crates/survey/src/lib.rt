@@ -2,8 +2,10 @@
 
 // The range of some numbers.
 mod range;
-// The sums over the records.
+// The sums over the states of a run.
 mod summary;
+// A run file fed into rows.
+mod kept;
 
 // A whole run file.
 mod whole;

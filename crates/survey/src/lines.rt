@@ -3,20 +3,24 @@ ghost use mathlib.Core.Bool.{Bool};
 ghost use mathlib.Core.Path.{_≡_};
 ghost use mathlib.Core.List.{_++_};
 ghost use lib.Dec.{eqb};
+ghost use lib.ListN.{length};
 ghost use Rattle.std.specs.Of.String.{string-bytes};
 ghost use Rattle.std.specs.Of.Vec.{vec-items};
 ghost use Rattle.std.specs.Vec.{made};
 ghost use Rattle.records.specs.Told.{names};
-ghost use Rattle.survey.specs.Statements.{fieldText, columnNames, rangeText, rangeLine, rangeLines, sumLines, heldLines, refusedLine, statementOf};
+ghost use Rattle.survey.specs.Statements.{fieldText, columnNames, rangeText, rangeLine, rangeLines, sumLines, heldLines, refusedLine, statementBy, statementOf};
+ghost use Rattle.survey.specs.Surveys.{surveyOf};
 ghost use Rattle.survey.specs.Told.{surveyed};
 use super::range::Range;
-use super::summary::Summary;
 use super::whole::Survey;
 use records::Header;
 use records::Refusal;
 use records::contains_byte;
 use std::alloc::AllocError;
 use std::alloc::Global;
+
+// The cells that a run file is kept in.
+const CELLS: usize = 16_384;
 
 // A name as a field of a record: in quotes where a comma stands in it. It has no quote.
 fn push_name(out: &mut Vec<u8>, name: &[u8]) -> Result<(), AllocError>
@@ -72,12 +76,16 @@ fn push_range(
     Ok(())
 }
 
-fn sum_text(heap: Global, summary: &Summary) -> Result<String, AllocError>
-    ensures { λ r. ⌜ made r (λ s. string-bytes s ≡ sumLines (now (summary .entry))) ⌝ }
+fn sum_text(heap: Global, survey: &Survey) -> Result<String, AllocError>
+    ensures { λ r. ⌜ made r (λ s. string-bytes s ≡ sumLines (now (survey .entry) .summary) (now (survey .entry) .free)) ⌝ }
 {
-    let states = summary.states;
-    let ticks = summary.ticks;
-    format!(heap, "\r\nstates,{states}\r\nticks,{ticks}\r\n")
+    let states = survey.summary.states;
+    let ticks = survey.summary.ticks;
+    let free = survey.free;
+    format!(
+        heap,
+        "\r\nstates,{states}\r\nticks,{ticks}\r\nrows,{free},16384,100000\r\n"
+    )
 }
 
 fn refused_text(heap: Global, refusal: Refusal) -> Result<String, AllocError>
@@ -110,18 +118,26 @@ fn held(heap: Global, survey: &Survey) -> Result<Vec<u8>, AllocError>
     let mut out = Vec::new(heap);
     out.extend_from_slice(b"columns")?;
     push_columns(&mut out, &survey.header)?;
-    let sums = sum_text(heap, &survey.summary)?;
+    let sums = sum_text(heap, survey)?;
     out.extend_from_slice(sums.as_bytes())?;
     push_ranges(&mut out, heap, survey)?;
     Ok(out)
+}
+
+// The statement of a run file that is kept in these cells.
+fn statement_in(heap: Global, bytes: &[u8], cells: &mut [i32]) -> Result<Vec<u8>, AllocError>
+    ensures { λ r. ⌜ made r (λ v. vec-items v ≡ statementBy (surveyOf (length (now (cells .entry))) (now (bytes .entry)))) ⌝ }
+{
+    match Survey::of(bytes, cells) {
+        Ok(survey) => held(heap, &survey),
+        Err(fault) => Ok(refused_text(heap, fault.refusal())?.into_bytes()),
+    }
 }
 
 // What a run file holds, or its first refusal.
 pub fn statement(heap: Global, bytes: &[u8]) -> Result<Vec<u8>, AllocError>
     ensures { λ r. ⌜ made r (λ v. vec-items v ≡ statementOf (now (bytes .entry))) ⌝ }
 {
-    match Survey::of(bytes) {
-        Ok(survey) => held(heap, &survey),
-        Err(fault) => Ok(refused_text(heap, fault.refusal())?.into_bytes()),
-    }
+    let mut cells = vec![in heap; 0; CELLS]?;
+    statement_in(heap, bytes, cells.as_mut_slice())
 }

@@ -1,46 +1,55 @@
-// A whole run file, read once from its first byte to its last.
+// A whole run file, fed into rows.
 ghost use mathlib.Core.Path.{_≡_};
-ghost use Prim.Native.Nat.{_^_, _≤_};
-ghost use Rattle.records.specs.Told.{cursor};
-ghost use Rattle.survey.specs.Surveys.{recordsFrom, sums, surveyOf};
+ghost use lib.ListN.{length};
+ghost use Rattle.records.specs.Told.{names};
+ghost use Rattle.survey.specs.Surveys.{fileShape, surveyOf};
 ghost use Rattle.survey.specs.Told.{toldSurvey};
+use super::kept::feed_records;
 use super::summary::Summary;
 use records::Fields;
 use records::Header;
-use records::RecordFault;
+use runfiles::RunFault;
+use runfiles::RunFaultFromRecord;
+use runs::Recorder;
+use runs::Rows;
+use runs::RowsRecorder;
+use runs::Shape;
 
-// The names of the columns, and the sums over the records.
+// The longest stay that a run file may have, in ticks.
+const LONGEST_STAY: u64 = 100_000;
+
+// A variable for each column.
+fn shape_of(header: &Header) -> Shape
+    ensures { λ r. ⌜ r ≡ fileShape (names (now (header .entry))) ⌝ }
+{
+    Shape {
+        width: header.width(),
+        longest: LONGEST_STAY,
+    }
+}
+
+// The names of the columns, the sums over the states, and the cells that are left.
 #[derive(Clone, Copy)]
 pub struct Survey<'a> {
     pub header: Header<'a>,
     pub summary: Summary,
-}
-
-// The sums over the next records, at most `most`.
-fn sum_records(fields: &mut Fields, most: usize, width: usize) -> Result<Summary, RecordFault>
-    requires { ⌜ most ≤ 2 ^ 63 ⌝ }
-    ensures { λ r. ⌜ r ≡ sums (recordsFrom most width (now (now (fields .entry) .bytes)) (cursor (now (fields .entry)))) ⌝ }
-{
-    let mut summary = Summary::new();
-    for _ in 0..most {
-        let Some(row) = fields.next_record()? else {
-            return Ok(summary);
-        };
-        row.check_width(width)?;
-        summary.add(&row);
-    }
-    Ok(summary)
+    pub free: usize,
 }
 
 impl<'a> Survey<'a> {
-    // What a run file holds, or its first fault.
-    pub fn of(bytes: &'a [u8]) -> Result<Survey<'a>, RecordFault>
-        ensures { λ r. ⌜ toldSurvey r ≡ surveyOf (now (bytes .entry)) ⌝ }
+    // What a run file holds, kept in rows of these cells; or its first fault.
+    pub fn of(bytes: &'a [u8], cells: &mut [i32]) -> Result<Survey<'a>, RunFault>
+        ensures { λ r. ⌜ toldSurvey r ≡ surveyOf (length (now (cells .entry))) (now (bytes .entry)) ⌝ }
     {
         let mut fields = Fields::over(bytes);
         let header = fields.header()?;
+        let mut rows = Rows::start(cells, shape_of(&header));
         // Each record but the last has a line end behind it, so there are at most as many others as bytes.
-        let summary = sum_records(&mut fields, bytes.len() + 1, header.width())?;
-        Ok(Survey { header, summary })
+        feed_records(&mut fields, &mut rows, bytes.len() + 1)?;
+        Ok(Survey {
+            header,
+            summary: Summary::of(&rows),
+            free: rows.free(),
+        })
     }
 }

@@ -17,6 +17,7 @@ impl<'a> Rows<'a> {
     // An open run without states, whose shape is the lawful one nearest to `shape`. No cell changes.
     pub fn start(cells: &'a mut [i32], shape: Shape) -> Rows<'a>
         ensures meaning { λ r. ⌜ meaningOf r ≡ begun shape ⌝ }
+        ensures free { λ r. ⌜ freeIn r ≡ length (now (cells .entry)) ⌝ }
         ensures cells { λ r. ⌜ cellsOf r ≡ now (cells .entry) ⌝ }
         ensures place { λ r. ⌜ name (r .cells) ≡ name (cells .entry) ⌝ }
     {

@@ -1,0 +1,3 @@
+pub mod ChangeRuns
+pub mod Encoding
+pub mod Told
