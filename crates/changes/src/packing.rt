@@ -4,7 +4,7 @@ ghost use Prim.Native.Nat.{_≤_, _<_};
 ghost use lib.IntN.{natAbs};
 ghost use Rattle.changes.specs.Encoding.{changeLargest, changedBy, packed, valueOf, variableOf};
 
-pub fn packed(value: i64, variable: usize) -> i32
+pub(crate) fn packed(value: i64, variable: usize) -> i32
     requires value { ⌜ natAbs value ≤ changeLargest ⌝ }
     requires variable { ⌜ variable < 16 ⌝ }
     ensures { λ r. ⌜ r ≡ packed value variable ⌝ }
@@ -26,7 +26,7 @@ fn value_of(cell: i32) -> i32
 }
 
 // The value of a variable once a cell is read: a new one, if the cell tells this variable's.
-pub fn value_after(cell: i32, variable: usize, before: i32) -> i32
+pub(crate) fn value_after(cell: i32, variable: usize, before: i32) -> i32
     ensures { λ r. ⌜ r ≡ changedBy variable cell before ⌝ }
 {
     if variable_of(cell) == variable {

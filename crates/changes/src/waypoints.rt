@@ -13,7 +13,7 @@ pub struct Waypoints {
 }
 
 impl Waypoints {
-    pub fn new() -> Waypoints {
+    pub(crate) fn new() -> Waypoints {
         Waypoints {
             places: [0; 64],
             values: [[0; 16]; 64],
@@ -21,7 +21,7 @@ impl Waypoints {
     }
 
     // Notes where a state begins and the values before it, if it is a 64th one.
-    pub fn note(&mut self, state: usize, place: usize, values: [i32; 16])
+    pub(crate) fn note(&mut self, state: usize, place: usize, values: [i32; 16])
         requires { ⌜ state < 4096 ⌝ }
         ensures places { λ _. ⌜ ((k : ℕ) → k < 64 → getD (now (self .exit) .places) k 0 ≡ cond (eqb (64 * k) state) place (getD (now (self .entry) .places) k 0)) ⌝ }
         ensures values { λ _. ⌜ ((k : ℕ) → k < 64 → getD (now (self .exit) .values) k [] ≡ cond (eqb (64 * k) state) values (getD (now (self .entry) .values) k [])) ⌝ }
