@@ -1,4 +1,5 @@
 // Runs told by their changes: a state keeps only the variables whose values change.
+#![tactic(auto)]
 
 // A variable and its value in one cell.
 mod packing;

@@ -1,4 +1,5 @@
 // Tests of runs told by their changes. Every expected value is worked out by hand.
+#![tactic(auto)]
 
 // A shape, and what is told of a run.
 #[cfg(test)]

@@ -1,4 +1,5 @@
 // Criteria: from the bytes of a text to its parts, or to a number and a place.
+#![tactic(auto)]
 
 // Why a criterion is refused.
 mod fault;

@@ -1,4 +1,5 @@
 // What the reader of criteria answers on examples, each worked out by hand from the rules of the language.
+#![tactic(auto)]
 
 // Readings that a test expects to be accepted, or to be refused.
 #[cfg(test)]

@@ -1,4 +1,5 @@
 // What a criterion is made of.
+#![tactic(auto)]
 
 // Comparators, measures, prefixes, connectives, and a criterion's parts.
 mod kinds;

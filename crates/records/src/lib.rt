@@ -1,4 +1,5 @@
 // Run files by RFC 4180, read over the caller's bytes: nothing is copied and nothing is allocated.
+#![tactic(auto)]
 
 // A byte among others.
 mod bytes;

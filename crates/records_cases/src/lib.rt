@@ -1,4 +1,5 @@
 // What the reader of run files answers on examples, each worked out by hand from the rules of the format.
+#![tactic(auto)]
 
 // Readings that a test expects to be answered, or to be refused.
 #[cfg(test)]

@@ -1,4 +1,5 @@
 // Checks the run file run.csv of the working folder: prints what it holds, or why it is refused.
+#![tactic(auto)]
 use anyhow::anyhow;
 use std::fs;
 use std::io::Write;

@@ -1,4 +1,5 @@
 // Run files fed into recorders, one record at a time.
+#![tactic(auto)]
 
 // Why a record is not fed, through all layers.
 mod fault;

@@ -1,4 +1,5 @@
 // What a run is, and what records one: states fed one after the other, and questions about them.
+#![tactic(auto)]
 
 // The shape of a run and its mark.
 mod shape;

@@ -1,4 +1,5 @@
 // Tests of recorders and of run files fed into them. Every expected value is worked out by hand.
+#![tactic(auto)]
 
 // Two shapes, and calls with each refusal as its number.
 #[cfg(test)]

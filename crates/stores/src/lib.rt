@@ -1,4 +1,5 @@
 // What the recorders with cells of their own share.
+#![tactic(auto)]
 
 // What such a recorder knows beside its cells.
 mod head;

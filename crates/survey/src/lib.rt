@@ -1,4 +1,5 @@
 // What a run file holds: its columns, its states and their ticks, and the range of each column's values.
+#![tactic(auto)]
 
 // The range of some numbers.
 mod range;

@@ -1,4 +1,5 @@
 // The tokens of a criterion's text, cut over the caller's bytes.
+#![tactic(auto)]
 
 // What a token can be.
 mod words;

@@ -1,4 +1,5 @@
 // What a criterion says of a run: verdicts, and the meaning that they have.
+#![tactic(auto)]
 
 // Verdicts, their bytes and their words.
 mod verdict;
