@@ -9,7 +9,7 @@ invariant_of-self-3 c =
     let w : Written r.head l.head r.cells.now l.cells.now c.args.stay c.args.values.now c.changed-changed.result = search rules in
     let places = more_places w l.waypoints.places c.note.new.self.places c.requires.few c.note.ensures.places (λ k h. ap (λ ws. get_or ws.places k 0) c.write.ensures.waypoints ∙ r.places k h) in
     let values = more_values w l.waypoints.values c.note.new.self.values l.last c.requires.few c.note.ensures.values (ap (take r.head.shape.width) c.write.ensures.last ∙ r.recent) (λ k h. ap (λ ws. take r.head.shape.width (get_or ws.values k [])) c.write.ensures.waypoints ∙ r.values k h) in
-    (more_within w, (more_used w, (more_recent w c.updated-self.result c.updated-self.ensures, (more_lawful w r.lawful, (places, (values, tt))))))
+    record { within = more_within w; used = more_used w; recent = more_recent w c.updated-self.result c.updated-self.ensures; lawful = more_lawful w r.lawful; places = places; values = values }
 
 pub returns : goal.returns
 returns c =

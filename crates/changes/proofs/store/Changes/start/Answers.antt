@@ -7,4 +7,11 @@ pub invariant_of-result : goal.invariant_of-result
 invariant_of-result c =
     let h = c.start.result in
     let e = c.start.ensures in
-    (omega (arith, e.used), (simp (e.count, e.used), (simp e.count (values_start h.shape.width (kept_cells h c.args.cells.now) h.width.1), (simp e.count, (λ k l. absurd (omega (arith, e.count)), (λ k l. absurd (omega (arith, e.count)), tt))))))
+    record {
+      within = omega (arith, e.used);
+      used = simp (e.count, e.used);
+      recent = simp e.count (values_start h.shape.width (kept_cells h c.args.cells.now) h.width.1);
+      lawful = simp e.count;
+      places = λ k l. absurd (omega (arith, e.count));
+      values = λ k l. absurd (omega (arith, e.count));
+    }

@@ -8,7 +8,7 @@ abbrev pub invariant-loop-v : goal.invariant-loop-v
 invariant-loop-v l =
     let start = l.initial.self in
     let told = changes 0 (take l.v l.values) (take start.head.shape.width start.last) in
-    (l.self.head ≡ start.head) × (l.self.last ≡ start.last) × (l.self.waypoints ≡ start.waypoints) × (l.self.cells.name ≡ start.cells.name)
+    (l.self.head ≡ start.head) × (l.self.last ≡ start.last) × (l.self.waypoints ≡ start.waypoints) × (l.self.cells.ghost_name ≡ start.cells.ghost_name)
     × (l.at ≡ start.head.used + 2 + length told)
     × (length l.self.cells.now ≡ length start.cells.now)
     × (l.self.cells.now ≡ paste start.cells.now (start.head.used + 2) told (length told))

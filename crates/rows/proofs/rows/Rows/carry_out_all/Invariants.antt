@@ -9,4 +9,4 @@ abbrev pub invariant-loop-call : goal.invariant-loop-call
 invariant-loop-call l =
     (rows_led (length (cells_of l.initial.self)) (drop l.call-index l.calls) (meaning_of l.self) ≡ rows_led (length (cells_of l.initial.self)) l.calls (meaning_of l.initial.self))
     × Holds (λ shape. rows_of) (cells_of l.initial.self) (meaning_of l.self) (cells_of l.self)
-    × (l.self.cells.name ≡ l.initial.self.cells.name)
+    × (l.self.cells.ghost_name ≡ l.initial.self.cells.ghost_name)

@@ -7,7 +7,7 @@ invariant_of-self-3 c =
     let r = c.args.self.now in
     let l = c.write.new.self in
     let w : Written r.head l.head r.cells.now l.cells.now c.args.stay c.args.values.now = search rules in
-    (more_used w, (more_fits w, (more_lawful w r.lawful, tt)))
+    record { used = more_used w; within = more_fits w; lawful = more_lawful w r.lawful }
 
 pub returns : goal.returns
 returns c =

@@ -8,7 +8,7 @@ pub invariant_of-self : goal.invariant_of-self
 invariant_of-self c =
     let r = c.args.self.now in
     let e = c.close.ensures in
-    (simp (e.used, e.count, e.shape) r.used, (simp e.used r.within, (lawful_alike r.head c.close.new.self r.cells.now e.shape e.count e.used r.lawful, tt)))
+    record { used = simp (e.used, e.count, e.shape) r.used; within = simp e.used r.within; lawful = lawful_alike r.head c.close.new.self r.cells.now e.shape e.count e.used r.lawful }
 
 pub returns : goal.returns
 returns c =
