@@ -17,12 +17,12 @@ loop-state-init c =
 pub value_past-value-requires : goal.value_past-value-requires
 value_past-value-requires c =
     let r = c.args.self.now in
-    rw c.loop-state.invariant.0 (place_fits (kept_of r) c.loop-state.-state r.head.count r.head.used r.used (omega (arith, c.requires.state)))
+    rw c.loop-state.invariant.0 (place_fits (kept_of r) c.loop-state._state r.head.count r.head.used r.used (omega (arith, c.requires.state)))
 
 pub next-at-requires : goal.next-at-requires
 next-at-requires c =
     let r = c.args.self.now in
-    rw c.loop-state.invariant.0 (place_fits (kept_of r) c.loop-state.-state r.head.count r.head.used r.used (omega (arith, c.requires.state)))
+    rw c.loop-state.invariant.0 (place_fits (kept_of r) c.loop-state._state r.head.count r.head.used r.used (omega (arith, c.requires.state)))
 
 pub loop-state-preserved : goal.loop-state-preserved
 loop-state-preserved c =
@@ -30,13 +30,13 @@ loop-state-preserved c =
     let inv = c.loop-state.invariant in
     let held = to_z-of_z w32 c.value_past-value.result (record { sfits = c.value_past-value.type_inv }) in
     let told : c.value_past-value.result ≡ changed_to c.args.v (changes_at (kept_of r) c.loop-state.at) c.loop-state.value = search rules in (
-      c.next-at.ensures ∙ ap (λ at. at + 2 + changed_at (kept_of r) at) inv.0 ∙ place_next (kept_of r) c.loop-state.-state,
+      c.next-at.ensures ∙ ap (λ at. at + 2 + changed_at (kept_of r) at) inv.0 ∙ place_next (kept_of r) c.loop-state._state,
       held ∙ told ∙ ap (λ at. changed_to c.args.v (changes_at (kept_of r) at) c.loop-state.value) inv.0
-          ∙ ap (changed_to c.args.v (changes_at (kept_of r) (place_of (kept_of r) c.loop-state.-state))) (sym c.loop-state.value-is ∙ inv.1) ∙ value_next (kept_of r) c.args.v c.loop-state.-state,
+          ∙ ap (changed_to c.args.v (changes_at (kept_of r) (place_of (kept_of r) c.loop-state._state))) (sym c.loop-state.value-is ∙ inv.1) ∙ value_next (kept_of r) c.args.v c.loop-state._state,
     )
 
 pub returns : goal.returns
 returns c =
-    let upto = c.loop-state.auto.-state-end (omega arith) in
-    let all : c.loop-state.-state ≡ c.args.i + 1 = omega arith in
+    let upto = c.loop-state.auto._state-end (omega arith) in
+    let all : c.loop-state._state ≡ c.args.i + 1 = omega arith in
     c.loop-state.invariant.1 ∙ ap (value_before (kept_of c.args.self.now) c.args.v) all
