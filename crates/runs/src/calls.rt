@@ -14,9 +14,9 @@ pub enum Call<'a> {
 
 // Carries out one call. Whatever calls follow, this one among them, the states only grow, a closed run no longer changes and the lead only falls.
 pub fn carry_out<R: Recorder>(recorder: &mut R, call: Call<'_>) -> Result<(), Refusal>
-    ensures answer { result ≡ answer (step_refusal R.largest (step_of (R.room recorder.old) (R.price recorder.old) call.entry) (meaning recorder.old)) }
-    ensures after { R.meaning recorder.new ≡ stepped R.largest (step_of (R.room recorder.old) (price recorder.old) call.entry) (R.meaning recorder.old) }
-    ensures cells { R.cells recorder.new ≡ step_written R.largest (step_of (R.room recorder.old) (price recorder.old) call.entry) (meaning recorder.old) (R.cells recorder.old) (written recorder.old) }
+    ensures answer { result ≡ answer (step_refusal R.largest (step_of (R.room recorder.old) (R.price recorder.old) call.entry) (R.meaning recorder.old)) }
+    ensures after { R.meaning recorder.new ≡ stepped R.largest (step_of (R.room recorder.old) (R.price recorder.old) call.entry) (R.meaning recorder.old) }
+    ensures cells { R.cells recorder.new ≡ step_written R.largest (step_of (R.room recorder.old) (R.price recorder.old) call.entry) (R.meaning recorder.old) (R.cells recorder.old) (R.written recorder.old) }
     ensures place { R.place recorder.new ≡ R.place recorder.old }
     ensures law { Lasting R.largest (R.meaning recorder.old) }
 {
@@ -24,9 +24,9 @@ pub fn carry_out<R: Recorder>(recorder: &mut R, call: Call<'_>) -> Result<(), Re
 }
 
 fn feed_or_close<R: Recorder>(recorder: &mut R, call: Call<'_>) -> Result<(), Refusal>
-    ensures answer { result ≡ answer (step_refusal R.largest (step_of (R.room recorder.old) (R.price recorder.old) call.entry) (meaning recorder.old)) }
-    ensures after { R.meaning recorder.new ≡ stepped R.largest (step_of (R.room recorder.old) (price recorder.old) call.entry) (R.meaning recorder.old) }
-    ensures cells { R.cells recorder.new ≡ step_written R.largest (step_of (R.room recorder.old) (price recorder.old) call.entry) (meaning recorder.old) (R.cells recorder.old) (written recorder.old) }
+    ensures answer { result ≡ answer (step_refusal R.largest (step_of (R.room recorder.old) (R.price recorder.old) call.entry) (R.meaning recorder.old)) }
+    ensures after { R.meaning recorder.new ≡ stepped R.largest (step_of (R.room recorder.old) (R.price recorder.old) call.entry) (R.meaning recorder.old) }
+    ensures cells { R.cells recorder.new ≡ step_written R.largest (step_of (R.room recorder.old) (R.price recorder.old) call.entry) (R.meaning recorder.old) (R.cells recorder.old) (R.written recorder.old) }
     ensures place { R.place recorder.new ≡ R.place recorder.old }
 {
     match call {

@@ -52,10 +52,10 @@ impl<R: Recorder> Late<R> {
 
 // Feeds the run below.
 fn feed_below<R: Recorder>(below: &mut R, stay: i64, values: &[i64]) -> Result<(), Refusal>
-    ensures answer { result ≡ answer (feed_refusal largest (room below.old) (price below.old stay values.now) (meaning below.old) stay values.now) }
-    ensures after { meaning below.new ≡ fed (feed_refusal largest (room below.old) (price below.old stay values.now) (meaning below.old) stay values.now) stay values.now (meaning below.old) }
-    ensures cells { cells below.new ≡ after (feed_refusal largest (room below.old) (price below.old stay values.now) (meaning below.old) stay values.now) (cells below.old) (written below.old stay values.now) }
-    ensures place { place below.new ≡ place below.old }
+    ensures answer { result ≡ answer (feed_refusal R.largest (R.room below.old) (R.price below.old stay values.now) (R.meaning below.old) stay values.now) }
+    ensures after { R.meaning below.new ≡ fed (feed_refusal R.largest (R.room below.old) (R.price below.old stay values.now) (R.meaning below.old) stay values.now) stay values.now (R.meaning below.old) }
+    ensures cells { R.cells below.new ≡ after (feed_refusal R.largest (R.room below.old) (R.price below.old stay values.now) (R.meaning below.old) stay values.now) (R.cells below.old) (R.written below.old stay values.now) }
+    ensures place { R.place below.new ≡ R.place below.old }
 {
     below.feed(stay, values)
 }

@@ -5,8 +5,8 @@ use Rattle.std.proofs.lemmas.Bool.Decides.{nat_tests}
 use Rattle.runfiles.specs.Faults.{first_over}
 use Rattle.runfiles.proofs.feeding.first_over.Goals as goal
 
-pub returns-then-unsigned-abs-largest : goal.returns-then-unsigned-abs-largest
-returns-then-unsigned-abs-largest c = record {
+pub returns-then-unsigned_abs-largest : goal.returns-then-unsigned_abs-largest
+returns-then-unsigned_abs-largest c = record {
   value = grind (arith, nat_tests, to_z-of_z, at_drop_more (λ vs. first_over c.args.largest vs c.loop-v.v));
   bound = c.loop-v-test.true;
 }

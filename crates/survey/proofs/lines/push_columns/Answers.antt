@@ -6,13 +6,13 @@ use Rattle.survey.specs.Statements.{field_text}
 use Rattle.survey.proofs.Appending.{one_more, past, end}
 use Rattle.survey.proofs.lines.push_columns.Goals as goal
 
-pub returns-in-default : goal.returns-in-default
-returns-in-default c = sym (past (λ n. comma ∷ field_text n) (names c.args.header.now) c.loop-column.column _ (vec_items c.loop-column.out) c.loop-column.invariant c.in-default.ensures)
+pub returns-in_default : goal.returns-in_default
+returns-in_default c = sym (past (λ n. comma ∷ field_text n) (names c.args.header.now) c.loop-column.column _ (vec_items c.loop-column.out) c.loop-column.invariant c.in_default.ensures)
 
 pub loop-column-preserved : goal.loop-column-preserved
 loop-column-preserved c =
-    let mark = pushed (comma ∷ []) refl c.in-ok-push.was c.push.ensures.items in
-    let told = c.in-ok-push-name.ensures in
+    let mark = pushed (comma ∷ []) refl c.in_ok-push.was c.push.ensures.items in
+    let told = c.in_ok-push_name.ensures in
     one_more (λ n. comma ∷ field_text n) (names c.args.header.now) c.loop-column.column _ (vec_items c.loop-column.out) c.loop-column.invariant _ _ c.in-Some.ensures
     (told ∙ ap (λ t. t ++ field_text c.in-Some.name.now) mark ∙ append_assoc (vec_items c.loop-column.out) (comma ∷ []) (field_text c.in-Some.name.now))
 

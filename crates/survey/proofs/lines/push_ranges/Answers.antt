@@ -3,20 +3,20 @@ use Rattle.records.specs.Told.{names}
 use Rattle.survey.proofs.Appending.{one_range, no_name, no_range_lem, last_range}
 use Rattle.survey.proofs.lines.push_ranges.Goals as goal
 
-pub returns-in-default : goal.returns-in-default
-returns-in-default c =
+pub returns-in_default : goal.returns-in_default
+returns-in_default c =
     let s = c.args.survey.now in
-    sym (no_name _ (names s.header) s.summary.ranges c.loop-column.column _ (vec_items c.loop-column.out) c.loop-column.invariant c.in-default.ensures)
+    sym (no_name _ (names s.header) s.summary.ranges c.loop-column.column _ (vec_items c.loop-column.out) c.loop-column.invariant c.in_default.ensures)
 
-pub returns-in-default-range : goal.returns-in-default-range
-returns-in-default-range c =
+pub returns-in_default-range : goal.returns-in_default-range
+returns-in_default-range c =
     let s = c.args.survey.now in
-    sym (no_range_lem _ (names s.header) s.summary.ranges c.loop-column.column _ (vec_items c.loop-column.out) c.loop-column.invariant _ c.in-Some.ensures c.in-default-range.ensures)
+    sym (no_range_lem _ (names s.header) s.summary.ranges c.loop-column.column _ (vec_items c.loop-column.out) c.loop-column.invariant _ c.in-Some.ensures c.in_default-range.ensures)
 
 pub loop-column-preserved : goal.loop-column-preserved
 loop-column-preserved c =
     let s = c.args.survey.now in
-    one_range _ (names s.header) s.summary.ranges c.loop-column.column _ (vec_items c.loop-column.out) c.loop-column.invariant _ _ _ c.in-Some.ensures c.in-Some-range.ensures c.in-ok-push-range.ensures
+    one_range _ (names s.header) s.summary.ranges c.loop-column.column _ (vec_items c.loop-column.out) c.loop-column.invariant _ _ _ c.in-Some.ensures c.in-Some-range.ensures c.in_ok-push_range.ensures
 
 pub returns : goal.returns
 returns c =

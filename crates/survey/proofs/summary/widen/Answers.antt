@@ -6,7 +6,7 @@ use Rattle.survey.specs.Ranges.{with_number}
 use Rattle.survey.specs.Summaries.{values_at}
 use Rattle.survey.proofs.Widening.{one_more, no_more, all_columns}
 use Rattle.survey.proofs.summary.widen.Goals as goal
-use Rattle.survey.proofs.summary.widen.Goals.{in-Some, in-default}
+use Rattle.survey.proofs.summary.widen.Goals.{in-Some, in_default}
 
 value_of : (s : Option State) (v : ℕ) → value_in s v ≡ slice_get (values_at s) v
 value_of None v = refl
@@ -22,7 +22,7 @@ loop-column-preserved g c =
           rw (w.ranges-is, made)
           (c.loop-column.invariant ∙ one_more _ _ c.loop-column.column _ (omega (arith, c.loop-column.auto.ranges)) w.in-Some.value (w.in-Some.ensures ∙ value_of state c.loop-column.column))
           )
-      | in-default w ↦ rw w.ranges-is (c.loop-column.invariant ∙ no_more _ _ c.loop-column.column (w.in-default.ensures ∙ value_of state c.loop-column.column))
+      | in_default w ↦ rw w.ranges-is (c.loop-column.invariant ∙ no_more _ _ c.loop-column.column (w.in_default.ensures ∙ value_of state c.loop-column.column))
     ]
 
 pub returns : goal.returns

@@ -9,8 +9,8 @@ use Rattle.changes.proofs.store.Changes.carry_out_all.Goals as goal
 pub loop-call-preserved : goal.loop-call-preserved
 loop-call-preserved c =
     let first = cells_of c.args.self.now in
-    let q = c.carry-out.new.recorder in
-    let e = c.carry-out.ensures in
+    let q = c.carry_out.new.recorder in
+    let e = c.carry_out.ensures in
     let inv = c.loop-call.invariant in
     (sym (calls_led changes_kind first c.loop-call.self inv.1 q c.args.calls.now c.loop-call.call-index _ c.loop-call-test.true e.after) ∙ inv.0, call_held changes_kind first c.loop-call.self inv.1 q _ e.after e.cells, e.place ∙ inv.2)
 

@@ -14,7 +14,7 @@ pub returns-else-value-self : goal.returns-else-value-self
 returns-else-value-self c =
     let old = get_or c.args.self.now.last c.args.v (pos 0) in
     let fits : SFits w32 old = search rules in
-    let held = to_z-of_z w32 c.packed.result (record { sfits = c.packed.type-inv }) in
+    let held = to_z-of_z w32 c.packed.result (record { sfits = c.packed.type_inv }) in
     change_some c.args.v c.args.value old _
     (λ e. c.if-value-self.false (ap (of_z w64) (e ∙ sym (to_z-of_z w32 old fits))))
     (held ∙ c.packed.ensures ∙ ap (λ z. packed z c.args.v) (to_z-of_z w64 c.args.value c.ranges.value))

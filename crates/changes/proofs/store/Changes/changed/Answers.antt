@@ -16,8 +16,8 @@ change-requires c =
     let fits : SFits w64 (get_or values v (pos 0)) = search rules in
     record { variable = omega (arith, c.requires.width); value = simp (to_z-of_z w64 (get_or values v (pos 0)) fits) small }
 
-pub overflow-add-changed : goal.overflow-add-changed
-overflow-add-changed c =
+pub overflow_add-changed : goal.overflow_add-changed
+overflow_add-changed c =
     let r = c.args.self.now in
     let few = changes_few 0 (take c.loop-v.v c.args.values.now) (take r.head.shape.width r.last) in
     search (rules, length-take)

@@ -2,8 +2,8 @@ use Rattle.std.proofs.Common.{[], get_or, take, ap, ◌∙◌, rules}
 use Rattle.changes.proofs.KeptState.{Written, more_free, more_lawful, more_meaning, more_places, more_recent, more_used, more_values, more_within}
 use Rattle.changes.proofs.store.Changes.keep.Goals as goal
 
-pub invariant-of-self-3 : goal.invariant-of-self-3
-invariant-of-self-3 c =
+pub invariant_of-self-3 : goal.invariant_of-self-3
+invariant_of-self-3 c =
     let r = c.args.self.now in
     let l = c.write.new.self in
     let w : Written r.head l.head r.cells.now l.cells.now c.args.stay c.args.values.now c.changed-changed.result = search rules in

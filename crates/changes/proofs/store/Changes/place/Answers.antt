@@ -5,7 +5,7 @@ use Rattle.changes.proofs.Places.{place_fits, place_next}
 use Rattle.changes.proofs.store.Changes.place.Goals as goal
 
 pub loop-state-init : goal.loop-state-init
-loop-state-init c = c.place-before-at.ensures ∙ c.args.self.now.places (c.args.i / 64) (omega (arith, c.requires))
+loop-state-init c = c.place_before-at.ensures ∙ c.args.self.now.places (c.args.i / 64) (omega (arith, c.requires))
 
 pub next-at-requires : goal.next-at-requires
 next-at-requires c =

@@ -3,8 +3,8 @@ use Rattle.changes.specs.Told.{kept_cells}
 use Rattle.changes.proofs.Places.{values_start}
 use Rattle.changes.proofs.store.Changes.start.Goals as goal
 
-pub invariant-of-result : goal.invariant-of-result
-invariant-of-result c =
+pub invariant_of-result : goal.invariant_of-result
+invariant_of-result c =
     let h = c.start.result in
     let e = c.start.ensures in
     (omega (arith, e.used), (simp (e.count, e.used), (simp e.count (values_start h.shape.width (kept_cells h c.args.cells.now) h.width.1), (simp e.count, (λ k l. absurd (omega (arith, e.count)), (λ k l. absurd (omega (arith, e.count)), tt))))))

@@ -12,15 +12,15 @@ use Rattle.changes.proofs.PackedChanges.{change_fits, changes_few, changes_upto,
 use Rattle.changes.proofs.Places.{long_enough}
 use Rattle.changes.proofs.WrittenChanges.{cell_pasted, state_pasted}
 use Rattle.changes.proofs.store.Changes.write.Goals as goal
-use Rattle.changes.proofs.store.Changes.write.Goals.{in-Some, in-default}
+use Rattle.changes.proofs.store.Changes.write.Goals.{in-Some, in_default}
 
-pub invariant-of-self : goal.invariant-of-self
-invariant-of-self c =
+pub invariant_of-self : goal.invariant_of-self
+invariant_of-self c =
     let r = c.args.self.now in
     facts_set r.head r.last r.waypoints.places r.waypoints.values r.cells.now r.head.used _ (omega arith) (facts_of r)
 
-pub overflow-cast-self-2 : goal.overflow-cast-self-2
-overflow-cast-self-2 c =
+pub overflow_cast-self-2 : goal.overflow_cast-self-2
+overflow_cast-self-2 c =
     let r = c.args.self.now in
     let few = changes_few 0 c.args.values.now (take r.head.shape.width r.last) in
     let wide = lawful_width r.head.shape change_largest c.args.stay c.args.values.now c.requires.lawful in
@@ -29,8 +29,8 @@ overflow-cast-self-2 c =
     let many = c.requires.changed in
     search rules
 
-pub invariant-of-self-2 : goal.invariant-of-self-2
-invariant-of-self-2 c =
+pub invariant_of-self-2 : goal.invariant_of-self-2
+invariant_of-self-2 c =
     let r = c.args.self.now in
     facts_set r.head r.last r.waypoints.places r.waypoints.values _ (r.head.used + 1) _ (omega arith)
     (facts_set r.head r.last r.waypoints.places r.waypoints.values r.cells.now r.head.used _ (omega arith) (facts_of r))
@@ -67,19 +67,19 @@ room c =
     let cells = simp length-set at inv.5 in
     omega (arith, inv.4, c.requires.room)
 
-pub offset-bounds-self-at : goal.offset-bounds-self-at
-offset-bounds-self-at c = let fits = room c in search rules
+pub offset_bounds-self-at : goal.offset_bounds-self-at
+offset_bounds-self-at c = let fits = room c in search rules
 
 pub bounds-self-at : goal.bounds-self-at
 bounds-self-at c = room c
 
-pub invariant-of-self-in-Some : goal.invariant-of-self-in-Some
-invariant-of-self-in-Some c =
+pub invariant_of-self-in-Some : goal.invariant_of-self-in-Some
+invariant_of-self-in-Some c =
     let r = c.loop-v.self in
     facts_set r.head r.last r.waypoints.places r.waypoints.values r.cells.now c.loop-v.at _ (omega (arith, c.loop-v.invariant.4, ap (λ h. h.used) c.loop-v.invariant.0)) (facts_of r)
 
-pub overflow-add-at-in-Some : goal.overflow-add-at-in-Some
-overflow-add-at-in-Some c =
+pub overflow_add-at-in-Some : goal.overflow_add-at-in-Some
+overflow_add-at-in-Some c =
     let r = c.args.self.now in
     let values = c.args.values.now in
     let upto = changes_upto 0 c.loop-v.v values (take r.head.shape.width r.last) in
@@ -115,7 +115,7 @@ loop-v-preserved c =
             ap (λ s. length s.cells.now) w.self-is ∙ length-set c.loop-v.self.cells.now c.loop-v.at _ ∙ inv.5,
             rw more (ap (λ s. s.cells.now) w.self-is ∙ ap (set c.loop-v.self.cells.now c.loop-v.at) held ∙ cell_pasted _ c.loop-v.self.cells.now (changes 0 (take v values) (take width r.last)) (r.head.used + 2) c.loop-v.at w.in-Some.cell inv.6 inv.4 (simp length-set (omega (arith, inv.4, c.requires.room)))),
           )
-      | in-default w ↦
+      | in_default w ↦
           let told : None ≡ change_of v (get_or values v (pos 0)) (get_or r.last v (pos 0)) = search rules in
           let more = told_none v width values r.last there (omega arith) (omega arith) told in (
             ap (λ s. s.head) w.self-is ∙ inv.0,

@@ -6,8 +6,8 @@ use Rattle.changes.specs.Encoding.{change_largest}
 use Rattle.changes.proofs.WrittenChanges.{front_written}
 use Rattle.changes.proofs.store.filling.updated.Goals as goal
 
-pub overflow-cast-last : goal.overflow-cast-last
-overflow-cast-last c =
+pub overflow_cast-last : goal.overflow_cast-last
+overflow_cast-last c =
     let values = c.args.values.now in
     let small = magnitude_within change_largest values c.loop-v.v c.requires.values c.loop-v-test.true in
     cell_fits (get_or values c.loop-v.v (pos 0)) (omega (arith, small))

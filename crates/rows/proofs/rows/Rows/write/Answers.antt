@@ -8,19 +8,19 @@ use Rattle.rows.specs.Rows.{row_largest}
 use Rattle.rows.proofs.WrittenRows.{kept_set}
 use Rattle.rows.proofs.rows.Rows.write.Goals as goal
 
-pub invariant-of-self : goal.invariant-of-self
-invariant-of-self c = search (rules, kept_set, length-set)
+pub invariant_of-self : goal.invariant_of-self
+invariant_of-self c = search (rules, kept_set, length-set)
 
 pub loop-v-init : goal.loop-v-init
 loop-v-init c = search (rules, paste_none)
 
-pub overflow-cast-self-in-loop-v : goal.overflow-cast-self-in-loop-v
-overflow-cast-self-in-loop-v c =
+pub overflow_cast-self-in-loop-v : goal.overflow_cast-self-in-loop-v
+overflow_cast-self-in-loop-v c =
     let values = c.args.values.now in
     cell_fits (get_or values c.loop-v.v (pos 0)) (value_within c.args.self.now.head.shape row_largest c.args.stay values c.requires.lawful c.loop-v.v c.loop-v-test.true)
 
-pub invariant-of-self-in-loop-v : goal.invariant-of-self-in-loop-v
-invariant-of-self-in-loop-v c = search (rules, kept_set, length-set)
+pub invariant_of-self-in-loop-v : goal.invariant_of-self-in-loop-v
+invariant_of-self-in-loop-v c = search (rules, kept_set, length-set)
 
 pub loop-v-preserved : goal.loop-v-preserved
 loop-v-preserved c =

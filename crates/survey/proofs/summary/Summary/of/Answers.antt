@@ -17,10 +17,10 @@ loop-i-preserved g c =
       c.add.ensures.small,
     )
 
-pub returns-in-default : goal.returns-in-default
-returns-in-default g c =
+pub returns-in_default : goal.returns-in_default
+returns-in_default g c =
     let states = (g.R.Recorder.meaning c.args.recorder.now).run.states in
-    sym (past states c.loop-i.i _ _ c.loop-i.invariant.0 c.in-default.ensures)
+    sym (past states c.loop-i.i _ _ c.loop-i.invariant.0 c.in_default.ensures)
 
 pub returns : goal.returns
 returns g c =

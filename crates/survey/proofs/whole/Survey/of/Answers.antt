@@ -12,12 +12,12 @@ pub returns : goal.returns
 returns c =
     let fields = c.over-fields.result in
     let read = c.read-header.new.fields in
-    let rows = c.feed-records.new.rows in
-    let told = c.in-ok-header.ensures in
+    let rows = c.feed_records.new.rows in
+    let told = c.in_ok-header.ensures in
     let started = c.start-rows.ensures in
-    let fed = c.in-ok-feed-records.ensures in
+    let fed = c.in_ok-feed_records.ensures in
     let long = fed.long ∙ ap length started.cells in
-    whole_file (length c.args.cells.now) (length (cells_of c.start-rows.result)) c.args.bytes.now fields.bytes.now read.bytes.now (cursor fields) (cursor read) (names c.in-ok-header.header) (meaning_of c.start-rows.result) (meaning_of rows) _ _
+    whole_file (length c.args.cells.now) (length (cells_of c.start-rows.result)) c.args.bytes.now fields.bytes.now read.bytes.now (cursor fields) (cursor read) (names c.in_ok-header.header) (meaning_of c.start-rows.result) (meaning_of rows) _ _
     (ap (λ b. b.now) c.over-fields.ensures.bytes) c.over-fields.ensures.place told.answer told.after (ap (λ b. b.now) told.bytes)
-    (ap length started.cells) (started.meaning ∙ ap begun c.shape-of.ensures) fed.run
+    (ap length started.cells) (started.meaning ∙ ap begun c.shape_of.ensures) fed.run
     c.of.ensures (c.free.ensures ∙ free_is rows ∙ ap (λ n. rows_free n (meaning_of rows)) long)

@@ -6,18 +6,18 @@ use Rattle.views.specs.Views.{viewed}
 use Rattle.views.proofs.LateViews.{late_closed, late_refusal}
 use Rattle.views.proofs.views.LateRecorder.close.Goals as goal
 
-pub returns-then-lacks-state : goal.returns-then-lacks-state
-returns-then-lacks-state g c =
+pub returns-then-lacks_state : goal.returns-then-lacks_state
+returns-then-lacks_state g c =
     let r = c.args.self.now in
     let m = g.R.Recorder.meaning r.below in
-    let none : (eqb (length (drop r.passed m.run.states)) 0 && not (ended m.run.mark)) ≡ true = rw length-drop (sym c.lacks-state.ensures ∙ c.if-lacks-state.true) in
+    let none : (eqb (length (drop r.passed m.run.states)) 0 && not (ended m.run.mark)) ≡ true = rw length-drop (sym c.lacks_state.ensures ∙ c.if-lacks_state.true) in
     search rules
 
 pub returns : goal.returns
 returns g c =
     let r = c.args.self.now in
     let m = g.R.Recorder.meaning r.below in
-    let there : (eqb (length (drop r.passed m.run.states)) 0 && not (ended m.run.mark)) ≡ false = rw length-drop (sym c.lacks-state.ensures ∙ c.if-lacks-state.false) in
+    let there : (eqb (length (drop r.passed m.run.states)) 0 && not (ended m.run.mark)) ≡ false = rw length-drop (sym c.lacks_state.ensures ∙ c.if-lacks_state.false) in
     record {
       answer = c.close.ensures.answer ∙ ap answer (sym (late_refusal r.passed m there));
       after = ap (viewed r.passed) c.close.ensures.after ∙ late_closed r.passed m there;

@@ -12,10 +12,10 @@ returns g c =
     let stay = c.args.stay in
     let values = c.args.values.now in
     let refused = feed_refusal R.largest (R.room r.below) (R.price r.below stay values) m stay values in
-    let below : R.meaning c.feed-below.new.below ≡ fed refused stay values m = search rules in
+    let below : R.meaning c.feed_below.new.below ≡ fed refused stay values m = search rules in
     record {
       answer = search rules;
       after = ap (viewed r.passed) below ∙ late_fed R.largest r.passed refused stay values m (R.sound r.below);
       cells = search rules;
-      place = c.feed-below.ensures.place;
+      place = c.feed_below.ensures.place;
     }

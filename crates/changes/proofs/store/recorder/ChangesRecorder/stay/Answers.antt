@@ -7,8 +7,8 @@ use Rattle.changes.proofs.ToldStates.{told_past, told_stay}
 use Rattle.changes.proofs.store.recorder.ChangesRecorder.stay.Goals as goal
 
 -- the state begins within the used cells
-pub stay-at-requires : goal.stay-at-requires
-stay-at-requires c =
+pub stay_at-requires : goal.stay_at-requires
+stay_at-requires c =
     let r = c.args.self.now in
     omega (arith, c.place.ensures, place_fits (kept_of r) c.args.i r.head.count r.head.used r.used (omega arith))
 

@@ -4,8 +4,8 @@ use Rattle.changes.proofs.ToldStates.{told_no_value, told_past, told_value}
 use Rattle.changes.proofs.store.recorder.ChangesRecorder.value.Goals as goal
 use Rattle.changes.proofs.store.recorder.ChangesRecorder.value.Goals.{else-i-states-via-then-i-states+else-v-shape, else-i-states-via-else-i-states}
 
-pub value-in-requires : goal.value-in-requires
-value-in-requires c = record { state = omega arith; variable = omega (arith, ap (λ s. s.width) c.shape.ensures) }
+pub value_in-requires : goal.value_in-requires
+value_in-requires c = record { state = omega arith; variable = omega (arith, ap (λ s. s.width) c.shape.ensures) }
 
 pub returns-then-v-shape : goal.returns-then-v-shape
 returns-then-v-shape c =

@@ -4,8 +4,8 @@ use Rattle.rows.specs.Rows.{rows_kept, length_row_states}
 use Rattle.rows.proofs.WrittenRows.{lawful_alike}
 use Rattle.rows.proofs.rows.recorder.RowsRecorder.close.Goals as goal
 
-pub invariant-of-self : goal.invariant-of-self
-invariant-of-self c =
+pub invariant_of-self : goal.invariant_of-self
+invariant_of-self c =
     let r = c.args.self.now in
     let e = c.close.ensures in
     (simp (e.used, e.count, e.shape) r.used, (simp e.used r.within, (lawful_alike r.head c.close.new.self r.cells.now e.shape e.count e.used r.lawful, tt)))
