@@ -1,6 +1,6 @@
 -- What a run is: states in their order, each with a stay and one value for each variable. Assumes nothing.
 use Rattle.std.specs.Prelude.{◌≡◌, ℕ, ◌<◌, ◌≤◌, Bool, true, false, List, [], length, ℤ, Some, None, sum_by, Option, unsigned_abs}
-use Rattle.std.specs.List.{slice_get, AllByRecursion as All}
+use Rattle.std.specs.List.{slice_get, AllByRecursion}
 use Rattle.std.specs.Option.{option_map}
 use Rattle.std.specs.Int.{IsInRange}
 use Rattle.runs.specs.declared.shape.Mark.{Mark}
@@ -49,12 +49,12 @@ ticks ss = sum_by (λ s. s.stay) ss
 pub record Lawful (shape : Shape) (largest : ℕ) (s : State) : Type 0 where
   pub stay : IsInRange 1 shape.longest s.stay
   pub values : length s.values ≡ shape.width
-  pub magnitudes : All (λ v. unsigned_abs v ≤ largest) s.values
+  pub magnitudes : AllByRecursion (λ v. unsigned_abs v ≤ largest) s.values
 
 -- what every recorder's meaning keeps; `largest` is the largest magnitude of its kind
 pub record Sound (largest : ℕ) (m : Meaning) : Type 0 where
   pub width : IsInRange 1 16 m.run.shape.width
   pub longest : IsInRange 1 100000 m.run.shape.longest
   pub few : length m.run.states ≤ 4096
-  pub lawful : All (Lawful m.run.shape largest) m.run.states
+  pub lawful : AllByRecursion (Lawful m.run.shape largest) m.run.states
   pub leads : 0 < m.lead → m.run.states ≡ []

@@ -1,7 +1,7 @@
 -- A known number is within its bound. Assumes nothing.
 use Rattle.std.proofs.Common.{◌≡◌, ℕ, zero, suc, ◌+◌, ◌-◌, ◌*◌, ◌≤◌, Bool, true, false, cond, List, [], ◌∷◌, length, ℤ, pos, negsuc, ◌+ℤ◌, ◌*ℤ◌, neg_ℤ, nat_abs, Some, None, Option, refl, subst, mul-le-mul_right, suc-mul, mul-le-mul, arith}
 use lib.Signed.{lt_z}
-use Rattle.std.specs.List.{slice_get, AllByRecursion as All}
+use Rattle.std.specs.List.{slice_get, AllByRecursion}
 use Rattle.std.specs.Int.{int_signum}
 use Rattle.std.specs.Option.{option_map}
 use Rattle.std.proofs.lemmas.Int.{ints}
@@ -51,21 +51,21 @@ Within bound (Some z) = nat_abs z ≤ bound
 
 abbrev AllWithin : ℕ → ℕ → Option (List ℤ) → Type 0
 AllWithin bound most None = Unit {0}
-AllWithin bound most (Some xs) = All (λ x. nat_abs x ≤ bound) xs × (length xs ≤ most)
+AllWithin bound most (Some xs) = AllByRecursion (λ x. nat_abs x ≤ bound) xs × (length xs ≤ most)
 
 within_either : (bound : ℕ) (t : Bool) (x y : ℤ) → nat_abs x ≤ bound → nat_abs y ≤ bound → nat_abs (cond t x y) ≤ bound
 within_either bound true x y h k = h
 within_either bound false x y h k = k
 
-least_within : (bound : ℕ) (x : ℤ) (xs : List ℤ) → nat_abs x ≤ bound → All (λ x. nat_abs x ≤ bound) xs → nat_abs (least_of x xs) ≤ bound
+least_within : (bound : ℕ) (x : ℤ) (xs : List ℤ) → nat_abs x ≤ bound → AllByRecursion (λ x. nat_abs x ≤ bound) xs → nat_abs (least_of x xs) ≤ bound
 least_within bound x [] h each = h
 least_within bound x (y ∷ ys) h each = within_either bound (lt_z (least_of y ys) x) _ _ (least_within bound y ys each.0 each.1) h
 
-greatest_within : (bound : ℕ) (x : ℤ) (xs : List ℤ) → nat_abs x ≤ bound → All (λ x. nat_abs x ≤ bound) xs → nat_abs (greatest_of x xs) ≤ bound
+greatest_within : (bound : ℕ) (x : ℤ) (xs : List ℤ) → nat_abs x ≤ bound → AllByRecursion (λ x. nat_abs x ≤ bound) xs → nat_abs (greatest_of x xs) ≤ bound
 greatest_within bound x [] h each = h
 greatest_within bound x (y ∷ ys) h each = within_either bound (lt_z (greatest_of y ys) x) _ _ h (greatest_within bound y ys each.0 each.1)
 
-total_within : (bound : ℕ) (xs : List ℤ) → All (λ x. nat_abs x ≤ bound) xs → nat_abs (total xs) ≤ length xs * bound
+total_within : (bound : ℕ) (xs : List ℤ) → AllByRecursion (λ x. nat_abs x ≤ bound) xs → nat_abs (total xs) ≤ length xs * bound
 total_within bound [] each = omega arith
 total_within bound (x ∷ xs) each = omega (arith, magnitude_sum x (total xs), each.0, total_within bound xs each.1, suc-mul (length xs) bound)
 
@@ -104,10 +104,10 @@ none_within bound n = (tt, omega arith)
 
 module _ (largest : ℕ) (mark : Mark) where
   abbrev Small : State → Type 0
-  Small s = All (λ v. nat_abs v ≤ largest) s.values
+  Small s = AllByRecursion (λ v. nat_abs v ≤ largest) s.values
 
-  tour_within : (bound : ℕ) (m : List State → Option ℤ) → ((t : List State) → length t ≤ most_states → All Small t → Within bound (m t))
-      → (a b : ℕ) (run : List State) → length run ≤ most_states → All Small run → AllWithin bound (length run) (tour (collect m) (Some []) None mark a b run)
+  tour_within : (bound : ℕ) (m : List State → Option ℤ) → ((t : List State) → length t ≤ most_states → AllByRecursion Small t → Within bound (m t))
+      → (a b : ℕ) (run : List State) → length run ≤ most_states → AllByRecursion Small run → AllWithin bound (length run) (tour (collect m) (Some []) None mark a b run)
   tour_within bound m each a b [] few small = tt
   tour_within bound m each a b (s ∷ r) few small =
       let rest = tour_within bound m each (a - s.stay) (b - s.stay) r (omega arith) small.1 in
@@ -119,12 +119,12 @@ module _ (largest : ℕ) (mark : Mark) where
       by_tests false true x h = none_within bound (suc (length r))
       by_tests false false x h = more_within bound (length r) x h
 
-  all_nth : (v : ℕ) (values : List ℤ) → All (λ x. nat_abs x ≤ largest) values → Within largest (slice_get values v)
+  all_nth : (v : ℕ) (values : List ℤ) → AllByRecursion (λ x. nat_abs x ≤ largest) values → Within largest (slice_get values v)
   all_nth v [] h = tt
   all_nth zero (x ∷ xs) h = h.0
   all_nth (suc v) (x ∷ xs) h = all_nth v xs h.1
 
-  variable_within : (v : ℕ) (run : List State) → All Small run → Within largest (value_at run 0 v)
+  variable_within : (v : ℕ) (run : List State) → AllByRecursion Small run → Within largest (value_at run 0 v)
   variable_within v [] small = tt
   variable_within v (s ∷ r) small = all_nth v s.values small.0
 
@@ -132,7 +132,7 @@ module _ (largest : ℕ) (mark : Mark) where
   few_within bound n None few h = tt
   few_within bound n (Some xs) few h = (h.0, omega (arith, h.1))
 
-  value_within : (m : Measure) (run : List State) → length run ≤ most_states → All Small run → Within (bound_of largest m) (value m mark run)
+  value_within : (m : Measure) (run : List State) → length run ≤ most_states → AllByRecursion Small run → Within (bound_of largest m) (value m mark run)
   value_within (numeral n) run few small = omega arith
   value_within (variable v) run few small = variable_within v run small
   value_within (unary u m) run few small = unary_within u (bound_of largest m) _ (value_within m run few small)

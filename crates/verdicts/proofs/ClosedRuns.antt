@@ -2,7 +2,7 @@
 use Rattle.std.proofs.Common.{◌≡◌, ℕ, ◌<◌, ◌≤◌, Bool, true, false, cond, List, [], ◌∷◌, length, get_or, drop, ℤ, pos, ◌-ℤ◌, ◌*ℤ◌, Some, None, Option, sym, refl, ap, ◌∙◌, subst, ap₂, inl, inr, arith}
 use mathlib.Core.List.{foldr}
 use Rattle.std.specs.Option.{option_map}
-use Rattle.std.specs.List.{AllByRecursion as All}
+use Rattle.std.specs.List.{AllByRecursion}
 use Rattle.std.proofs.ByRecursion.{All-drop, All-weaker}
 use Rattle.std.proofs.lemmas.List.{length-drop}
 use Rattle.std.proofs.lemmas.Option.{slice_get-get_or}
@@ -74,10 +74,10 @@ same_some : (m n : ℕ) → Some m ≡ Some n → m ≡ n
 same_some m n e = cc
 
 module _ (shape : Shape) (largest : ℕ) (mark : Mark) (closed : endures mark ≡ true) where
-  fits_stays : (run : List State) → All (Fits shape) run → All (λ s. 1 ≤ s.stay) run
+  fits_stays : (run : List State) → AllByRecursion (Fits shape) run → AllByRecursion (λ s. 1 ≤ s.stay) run
   fits_stays run fits = All-weaker (Fits shape) (λ s. 1 ≤ s.stay) (λ s f. f.stay.0) run fits
 
-  visits_in_order : (w : Window) → lawful_window w ≡ true → (run : List State) → All (Fits shape) run → InOrder Closed w run (places mark w.first w.last run)
+  visits_in_order : (w : Window) → lawful_window w ≡ true → (run : List State) → AllByRecursion (Fits shape) run → InOrder Closed w run (places mark w.first w.last run)
   visits_in_order w h run fits = in_order_as mark closed (places_in_order mark w (window_order w h) run (fits_stays run fits))
 
   visited_there : (run : List State) (j : ℕ) {w : Window} → Visits Closed w run j → 0 < length (drop j run)
@@ -89,7 +89,7 @@ module _ (shape : Shape) (largest : ℕ) (mark : Mark) (closed : endures mark �
       tour_folds join done cut mark w.first w.last run
       ∙ ap (λ told. foldr (λ j x. join (drop j run) x) (cond told done cut) (places mark w.first w.last run)) (closed_whole mark closed w.first w.last run some)
 
-  variable_told : (v : ℕ) → v < shape.width → (run : List State) → All (Fits shape) run → 0 < length run → Only (λ z. value_at run 0 v ≡ Some z) (value_at run 0 v)
+  variable_told : (v : ℕ) → v < shape.width → (run : List State) → AllByRecursion (Fits shape) run → 0 < length run → Only (λ z. value_at run 0 v ≡ Some z) (value_at run 0 v)
   variable_told v h [] fits some = absurd (omega arith)
   variable_told v h (s ∷ r) fits some =
       let there : v < length s.values = omega (arith, fits.0.values) in
@@ -97,7 +97,7 @@ module _ (shape : Shape) (largest : ℕ) (mark : Mark) (closed : endures mark �
       record { number = get_or s.values v (pos 0); known = read; is = read; only = λ other e. cc (read, e) }
 
   number_told : (inside : Bool) (m : Measure) → lawful_measure shape.width largest inside m ≡ true
-      → (run : List State) → All (Fits shape) run → 0 < length run → Only (Number m run) (value m mark run)
+      → (run : List State) → AllByRecursion (Fits shape) run → 0 < length run → Only (Number m run) (value m mark run)
   number_told inside (numeral n) h run fits some = record { number = n; known = refl; is = refl; only = λ other e. e }
   number_told inside (variable v) h run fits some = variable_told v (ltb-true v shape.width h) run fits some
   number_told inside (unary u m) h run fits some =
@@ -122,7 +122,7 @@ module _ (shape : Shape) (largest : ℕ) (mark : Mark) (closed : endures mark �
       }
 
   rises_told : (c : Comparator) (m n : Measure) → lawful shape.width largest (compare c true m n) ≡ true
-      → (run : List State) → All (Fits shape) run → 0 < length run → Told (Holds (compare c true m n) run) (rises c (value m mark) (value n mark) mark run)
+      → (run : List State) → AllByRecursion (Fits shape) run → 0 < length run → Told (Holds (compare c true m n) run) (rises c (value m mark) (value n mark) mark run)
   rises_told c m n h [] fits some = absurd (omega arith)
   rises_told c m n h (s ∷ []) fits some = rw closed (wrong (λ holds. omega (arith, holds.0)))
   rises_told c m n h (s ∷ t ∷ r) fits some =
@@ -143,13 +143,13 @@ module _ (shape : Shape) (largest : ℕ) (mark : Mark) (closed : endures mark �
       (only_mapped times (Number n run) _ (number_told false n parts.1 run fits (omega arith))))
 
   -- an operand of a window, at each visited state
-  operand_told : (p : Property) → ((t : List State) → All (Fits shape) t → 0 < length t → Told (Holds p t) (verdict p mark t))
-      → (w : Window) → lawful_window w ≡ true → (run : List State) → All (Fits shape) run
+  operand_told : (p : Property) → ((t : List State) → AllByRecursion (Fits shape) t → 0 < length t → Told (Holds p t) (verdict p mark t))
+      → (w : Window) → lawful_window w ≡ true → (run : List State) → AllByRecursion (Fits shape) run
       → (j : ℕ) → Among j (places mark w.first w.last run) → Told (Holds p (drop j run)) (verdict p mark (drop j run))
   operand_told p told w h run fits j i =
       told (drop j run) (All-drop (Fits shape) j run fits) (visited_there run j ((visits_in_order w h run fits).each j i))
 
-  verdict_told : (p : Property) → lawful shape.width largest p ≡ true → (run : List State) → All (Fits shape) run → 0 < length run → Told (Holds p run) (verdict p mark run)
+  verdict_told : (p : Property) → lawful shape.width largest p ≡ true → (run : List State) → AllByRecursion (Fits shape) run → 0 < length run → Told (Holds p run) (verdict p mark run)
   verdict_told (compare c false m n) h run fits some =
       let parts = compare_parts shape.width largest c false m n h in
       compared_told (Number m run) (Number n run) _ _ c (number_told false m parts.0 run fits some) (number_told false n parts.1 run fits some)
@@ -157,7 +157,7 @@ module _ (shape : Shape) (largest : ℕ) (mark : Mark) (closed : endures mark �
   verdict_told (prefixed Not p) h run fits some = told_not (verdict_told p (prefixed_parts shape.width largest Not p h).1 run fits some)
   verdict_told (prefixed (Next k) p) h run fits some =
       further_told mark closed (Holds p) (verdict p mark) k run
-      (λ t e some'. verdict_told p (prefixed_parts shape.width largest (Next k) p h).1 t (subst (All (Fits shape)) (sym e) (All-drop (Fits shape) k run fits)) some')
+      (λ t e some'. verdict_told p (prefixed_parts shape.width largest (Next k) p h).1 t (subst (AllByRecursion (Fits shape)) (sym e) (All-drop (Fits shape) k run fits)) some')
   verdict_told (prefixed (Eventually w) p) h run fits some =
       let parts = prefixed_parts shape.width largest (Eventually w) p h in
       let order = visits_in_order w parts.0 run fits in

@@ -1,7 +1,7 @@
 -- Whatever feeds and closes follow, a decided verdict stays and the kept states fit the run's shape. Assumes nothing.
 use Rattle.std.proofs.Common.{◌≡◌, ℕ, zero, suc, Bool, true, false, cond, not, eqb, leb, List, [], ◌∷◌, length, ℤ, pos, negsuc, nat_abs, Some, None, Option, refl, ap, ◌∙◌, inl, inr, arith}
 use Rattle.std.specs.Int.{IsInRange}
-use Rattle.std.specs.List.{AllByRecursion as All}
+use Rattle.std.specs.List.{AllByRecursion}
 use Rattle.std.proofs.ByRecursion.{All-push, All-weaker}
 use Rattle.std.proofs.lemmas.Bool.{and_parts, cases_Bool, eqb-true, false≢true, leb-true, not-false}
 use Rattle.runs.proofs.LastingRuns.{lasting}
@@ -32,7 +32,7 @@ verdicts_last width largest p h most m steps decided =
           ∙ verdicts_stay width largest p h m.run.mark (after_steps most steps m).run.mark (not_enduring m.run.mark e) m.run.states later.states.0 decided
     ]
 
-pub lawful_fits : (shape : Shape) (largest : ℕ) (states : List State) → All (Lawful shape largest) states → All (Fits shape) states
+pub lawful_fits : (shape : Shape) (largest : ℕ) (states : List State) → AllByRecursion (Lawful shape largest) states → AllByRecursion (Fits shape) states
 lawful_fits shape largest states lawful = All-weaker (Lawful shape largest) (Fits shape) (λ s l. record { stay = l.stay; values = l.values }) states lawful
 
 -- what a feed that is not refused says of its state
@@ -59,9 +59,9 @@ offered_fits shape most stay values e =
 
 module _ (most : ℕ) where
   abbrev AllFit : Meaning → Type 0
-  AllFit m = All (Fits m.run.shape) m.run.states
+  AllFit m = AllByRecursion (Fits m.run.shape) m.run.states
 
-  kept_fits : (s : State) (lead : ℕ) (run : Run) → Fits run.shape s → All (Fits run.shape) run.states → AllFit (with_state s lead run)
+  kept_fits : (s : State) (lead : ℕ) (run : Run) → Fits run.shape s → AllByRecursion (Fits run.shape) run.states → AllFit (with_state s lead run)
   kept_fits s zero run fits all = All-push (Fits run.shape) run.states s all fits
   kept_fits s (suc n) run fits all = all
 

@@ -1,7 +1,7 @@
 -- Once a run is closed, or its stays add up to the reach of a formula, its verdict is decided. Assumes nothing.
 use Rattle.std.proofs.Common.{◌≡◌, ℕ, zero, suc, ◌+◌, ◌-◌, ◌*◌, ◌<◌, ◌≤◌, max, Bool, true, false, List, [], ◌∷◌, length, drop, ℤ, pos, ◌-ℤ◌, ◌*ℤ◌, Some, None, Option, refl, inl, inr, suc-mul, arith}
 use Rattle.std.specs.Option.{option_map}
-use Rattle.std.specs.List.{AllByRecursion as All}
+use Rattle.std.specs.List.{AllByRecursion}
 use Rattle.std.proofs.ByRecursion.{All-drop}
 use Rattle.std.proofs.lemmas.Option.{slice_get-get_or}
 use Rattle.std.proofs.lemmas.List.Sums.{sum_by-cons}
@@ -69,14 +69,14 @@ ticks_cons s r = sum_by-cons (λ (x : State). x.stay) s r
 
 -- Where the ticks are more by b than the operands need, those of each visited state are enough, and the window is whole.
 module _ {A : Type 0} (Q : A → Type 0) (F : State → Type 0) (join : List State → A → A) (done cut : A) (mark : Mark) (needed : ℕ) (some : 1 ≤ needed) (ends : Q done)
-    (joins : (t : List State) → All F t → needed ≤ ticks t → (x : A) → Q x → Q (join t x)) where
-  toured_reached : (begun ended : Bool) (t : List State) (x : A) → All F t → needed ≤ ticks t → (ended ≡ false → Q x) → Q (tour_at begun ended (join t) done x)
+    (joins : (t : List State) → AllByRecursion F t → needed ≤ ticks t → (x : A) → Q x → Q (join t x)) where
+  toured_reached : (begun ended : Bool) (t : List State) (x : A) → AllByRecursion F t → needed ≤ ticks t → (ended ≡ false → Q x) → Q (tour_at begun ended (join t) done x)
   toured_reached true true t x fits enough rest = joins t fits enough done ends
   toured_reached true false t x fits enough rest = joins t fits enough x (rest refl)
   toured_reached false true t x fits enough rest = ends
   toured_reached false false t x fits enough rest = rest refl
 
-  tour_reached : (a b : ℕ) (run : List State) → All F run → needed + b ≤ ticks run → Q (tour join done cut mark a b run)
+  tour_reached : (a b : ℕ) (run : List State) → AllByRecursion F run → needed + b ≤ ticks run → Q (tour join done cut mark a b run)
   tour_reached a b [] fits enough = absurd (omega arith)
   tour_reached a b (s ∷ r) fits enough =
       toured_reached (within mark a s r) (within mark b s r) (s ∷ r) _ fits (omega arith)
@@ -96,7 +96,7 @@ reach_positive longest (joined c p q) = omega (arith, reach_positive longest p)
 
 module _ (shape : Shape) (largest : ℕ) (mark : Mark) where
   -- so many states last at most as often the longest stay
-  ticks_dropped : (k : ℕ) (run : List State) → All (Fits shape) run → ticks run ≤ ticks (drop k run) + k * shape.longest
+  ticks_dropped : (k : ℕ) (run : List State) → AllByRecursion (Fits shape) run → ticks run ≤ ticks (drop k run) + k * shape.longest
   ticks_dropped zero run fits = omega arith
   ticks_dropped (suc k) [] fits = omega arith
   ticks_dropped (suc k) (s ∷ r) fits = omega (arith, ticks_dropped k r fits.1, fits.0.stay.1, ticks_cons s r, suc-mul k shape.longest)
@@ -109,11 +109,11 @@ module _ (shape : Shape) (largest : ℕ) (mark : Mark) where
   windowless_reach (binary b m n) h = let parts = binary_parts shape.width largest true b m n h in omega (arith, windowless_reach m parts.0, windowless_reach n parts.1)
   windowless_reach (over s w m) h = absurd (true≢false (over_parts shape.width largest true s w m h).0)
 
-  variable_known : (v : ℕ) → v < shape.width → (run : List State) → All (Fits shape) run → 1 ≤ ticks run → Known (value_at run 0 v)
+  variable_known : (v : ℕ) → v < shape.width → (run : List State) → AllByRecursion (Fits shape) run → 1 ≤ ticks run → Known (value_at run 0 v)
   variable_known v h [] fits some = absurd (omega arith)
   variable_known v h (s ∷ r) fits some = let there : v < length s.values = omega (arith, fits.0.values) in rw (slice_get-get_or s.values v (pos 0) there) (known _)
 
-  value_reached : (inside : Bool) (m : Measure) → lawful_measure shape.width largest inside m ≡ true → (run : List State) → All (Fits shape) run → measure_reach m ≤ ticks run → Known (value m mark run)
+  value_reached : (inside : Bool) (m : Measure) → lawful_measure shape.width largest inside m ≡ true → (run : List State) → AllByRecursion (Fits shape) run → measure_reach m ≤ ticks run → Known (value m mark run)
   value_reached inside (numeral n) h run fits enough = known n
   value_reached inside (variable v) h run fits enough = variable_known v (ltb-true v shape.width h) run fits enough
   value_reached inside (unary u m) h run fits enough = known_mapped (of_one u) (value_reached inside m (unary_parts shape.width largest inside u m h).0 run fits enough)
@@ -129,15 +129,15 @@ module _ (shape : Shape) (largest : ℕ) (mark : Mark) where
   further_reached said [] some h = absurd (omega arith)
   further_reached said (s ∷ r) some h = h
 
-  rises_reached : (c : Comparator) (m n : List State → Option ℤ) (needed : ℕ) → 1 ≤ needed → ((t : List State) → All (Fits shape) t → needed ≤ ticks t → Known (m t)) → ((t : List State) → All (Fits shape) t → needed ≤ ticks t → Known (n t))
-      → (run : List State) → All (Fits shape) run → needed + shape.longest ≤ ticks run → Settled (rises c m n mark run)
+  rises_reached : (c : Comparator) (m n : List State → Option ℤ) (needed : ℕ) → 1 ≤ needed → ((t : List State) → AllByRecursion (Fits shape) t → needed ≤ ticks t → Known (m t)) → ((t : List State) → AllByRecursion (Fits shape) t → needed ≤ ticks t → Known (n t))
+      → (run : List State) → AllByRecursion (Fits shape) run → needed + shape.longest ≤ ticks run → Settled (rises c m n mark run)
   rises_reached c m n needed some m_known n_known [] fits enough = absurd (omega arith)
   rises_reached c m n needed some m_known n_known (s ∷ r) fits enough =
       let rest : needed ≤ ticks r = omega (arith, ticks_cons s r, fits.0.stay.1) in
       further_reached (rise c m n s r) r (omega arith)
       (settled_compared c (known_both ◌-ℤ◌ (m_known r fits.1 rest) (m_known (s ∷ r) fits (omega arith))) (known_mapped (λ x. x *ℤ pos s.stay) (n_known (s ∷ r) fits (omega arith))))
 
-  verdict_reached : (p : Property) → lawful shape.width largest p ≡ true → (run : List State) → All (Fits shape) run → reach_of shape.longest p ≤ ticks run → Settled (verdict p mark run)
+  verdict_reached : (p : Property) → lawful shape.width largest p ≡ true → (run : List State) → AllByRecursion (Fits shape) run → reach_of shape.longest p ≤ ticks run → Settled (verdict p mark run)
   verdict_reached (compare c false m n) h run fits enough =
       let parts = compare_parts shape.width largest c false m n h in
       settled_compared c (value_reached false m parts.0 run fits (omega arith)) (value_reached false n parts.1 run fits (omega arith))

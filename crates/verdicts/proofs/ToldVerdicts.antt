@@ -2,7 +2,6 @@
 use Rattle.std.proofs.Common.{ℕ, ◌<◌, ◌⊎◌, List, [], ◌∷◌, sym, refl, subst, inl, inr, arith}
 use mathlib.Core.List.{foldr}
 use Rattle.verdicts.specs.Tables.{greater, lesser, swap}
-use Rattle.verdicts.specs.Verdicts.{both}
 use Rattle.verdicts.specs.Windows.{Among, Rising}
 use Rattle.verdicts.specs.declared.verdict.Verdict.{Verdict}
 use Rattle.verdicts.specs.declared.verdict.Verdict.TheVariants.{False, True}

@@ -2,7 +2,7 @@
 use Rattle.std.proofs.Common.{◌≡◌, ℕ, zero, suc, ◌+◌, ◌-◌, ◌<◌, ◌≤◌, Bool, true, false, cond, leb, ◌⊎◌, List, [], ◌∷◌, map, drop, sym, refl, ap, ◌∙◌, inl, inr, arith}
 use mathlib.Core.List.{foldr}
 use Rattle.std.proofs.lemmas.Bool.{and_right, false≢true, le-leb, lt-leb, or_from, or_left, true≢false}
-use Rattle.std.specs.List.{AllByRecursion as All}
+use Rattle.std.specs.List.{AllByRecursion}
 use Rattle.parts.specs.declared.kinds.Window.{Window}
 use Rattle.runs.specs.Runs.{State, endures}
 use Rattle.runs.specs.declared.shape.Mark.{Mark}
@@ -81,13 +81,13 @@ abbrev Seen : Mark → ℕ → ℕ → List State → ℕ → Type 0
 Seen mark a b run j = (t : ℕ) × (a ≤ t) × (t ≤ b) × Owns mark t run j
 
 -- moment 0 belongs where moment 1 does
-at_one : (mark : Mark) (r : List State) (j : ℕ) → All (λ s. 1 ≤ s.stay) r → Owns mark 0 r j → Owns mark 1 r j
+at_one : (mark : Mark) (r : List State) (j : ℕ) → AllByRecursion (λ s. 1 ≤ s.stay) r → Owns mark 0 r j → Owns mark 1 r j
 at_one mark [] j stays o = absurd o
 at_one mark (s ∷ r) zero stays o = or_left (leb 1 s.stay) _ (le-leb 1 s.stay stays.0)
 at_one mark (s ∷ r) (suc j) stays o = absurd (omega (arith, o.0))
 
 module _ (mark : Mark) (a b : ℕ) (s : State) (r : List State) (past : within mark b s r ≡ false) where
-  moment_later : (t j : ℕ) → All (λ s. 1 ≤ s.stay) r → a - s.stay ≤ t → t ≤ b - s.stay → Owns mark t r j → Seen mark a b (s ∷ r) (suc j)
+  moment_later : (t j : ℕ) → AllByRecursion (λ s. 1 ≤ s.stay) r → a - s.stay ≤ t → t ≤ b - s.stay → Owns mark t r j → Seen mark a b (s ∷ r) (suc j)
   moment_later zero j stays low high o =
       let end = not_within mark b s r past in
       let same : s.stay + 1 - s.stay ≡ 1 = omega arith in
@@ -97,7 +97,7 @@ module _ (mark : Mark) (a b : ℕ) (s : State) (r : List State) (past : within m
       let same : s.stay + suc t - s.stay ≡ suc t = omega arith in
       (s.stay + suc t, omega arith, omega arith, (omega arith, rw same o))
 
-  seen_later : (j : ℕ) → All (λ s. 1 ≤ s.stay) r → Seen mark (a - s.stay) (b - s.stay) r j → Seen mark a b (s ∷ r) (suc j)
+  seen_later : (j : ℕ) → AllByRecursion (λ s. 1 ≤ s.stay) r → Seen mark (a - s.stay) (b - s.stay) r j → Seen mark a b (s ∷ r) (suc j)
   seen_later j stays seen = moment_later seen.0 j stays seen.1 seen.2 seen.3
 
 ends_later : (mark : Mark) (b t : ℕ) (s : State) (r : List State) (j : ℕ) → t ≤ b → s.stay < t → Owns mark (t - s.stay) r j → within mark b s r ≡ false
@@ -108,7 +108,7 @@ seen_rest : (mark : Mark) (a b : ℕ) (s : State) (r : List State) (j : ℕ) →
 seen_rest mark a b s r j (t, low, high, o) =
     (ends_later mark b t s r j high o.0 o.1, (t - s.stay, omega arith, omega arith, o.1))
 
-places_seen : (mark : Mark) (a b : ℕ) → a ≤ b → (run : List State) → All (λ s. 1 ≤ s.stay) run → (j : ℕ) → Among j (places mark a b run) → Seen mark a b run j
+places_seen : (mark : Mark) (a b : ℕ) → a ≤ b → (run : List State) → AllByRecursion (λ s. 1 ≤ s.stay) run → (j : ℕ) → Among j (places mark a b run) → Seen mark a b run j
 places_seen mark a b order [] stays j m = absurd m
 places_seen mark a b order (s ∷ r) stays j m = elim (toured_among (within mark a s r) (within mark b s r) _ j m) [
   | inl h ↦ rw h.1 (a, omega arith, order, h.0)
@@ -123,7 +123,7 @@ seen_places mark a b (s ∷ r) (suc j) seen =
     let rest = seen_rest mark a b s r j seen in
     later_among (within mark a s r) (within mark b s r) _ (suc j) rest.0 (suc_among j _ (seen_places mark (a - s.stay) (b - s.stay) r j rest.1))
 
-pub places_in_order : (mark : Mark) (w : Window) → w.first ≤ w.last → (run : List State) → All (λ s. 1 ≤ s.stay) run → InOrder mark w run (places mark w.first w.last run)
+pub places_in_order : (mark : Mark) (w : Window) → w.first ≤ w.last → (run : List State) → AllByRecursion (λ s. 1 ≤ s.stay) run → InOrder mark w run (places mark w.first w.last run)
 places_in_order mark w order run stays = record {
   rising = places_rising mark w.first w.last run;
   each = λ j m. let seen = places_seen mark w.first w.last order run stays j m in

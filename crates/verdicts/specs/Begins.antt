@@ -1,7 +1,7 @@
 -- Which closed runs begin with the states that a run keeps. Assumes nothing.
 use Rattle.std.specs.Prelude.{◌≡◌, true, List, ◌++◌, length}
 use Rattle.std.specs.Int.{IsInRange}
-use Rattle.std.specs.List.{AllByRecursion as All}
+use Rattle.std.specs.List.{AllByRecursion}
 use Rattle.runs.specs.Runs.{Run, State, endures}
 use Rattle.runs.specs.declared.shape.Shape.{Shape}
 
@@ -16,4 +16,4 @@ pub record BeginsWith (kept whole : Run) : Type 0 where
   pub closed : endures whole.mark ≡ true
   pub more : List State
   pub states : whole.states ≡ kept.states ++ more
-  pub fits : All (Fits kept.shape) more
+  pub fits : AllByRecursion (Fits kept.shape) more

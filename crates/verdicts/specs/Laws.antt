@@ -1,6 +1,6 @@
 -- The laws of verdicts, each for every lawful formula. Assumes nothing.
 use Rattle.std.specs.Prelude.{◌≡◌, ℕ, ◌+◌, ◌-◌, ◌<◌, ◌≤◌, min, max, Bool, true, false, ◌⊎◌, ◌↔◌, List, ◌++◌, map, length, drop, ℤ, Some, ◌≢◌, unsigned_abs}
-use Rattle.std.specs.List.{AllByRecursion as All}
+use Rattle.std.specs.List.{AllByRecursion}
 use Rattle.parts.specs.Bounds.{bound_of, most_bound, most_states}
 use Rattle.parts.specs.Formulas.{Measure, Property, joined, over, prefixed}
 use Rattle.parts.specs.Limits.{lawful, lawful_measure, most_numeral}
@@ -56,21 +56,21 @@ pub record Tells (p : Property) (run : List State) (v : Verdict) : Type 0 where
 abbrev pub TwoValued : Type 0
 TwoValued =
     (shape : Shape) (largest : ℕ) (p : Property) → lawful shape.width largest p ≡ true
-    → (mark : Mark) → endures mark ≡ true → (run : List State) → All (Fits shape) run → 0 < length run
+    → (mark : Mark) → endures mark ≡ true → (run : List State) → AllByRecursion (Fits shape) run → 0 < length run
     → Tells p run (verdict p mark run) × (verdict p mark run ≢ Undecided)
 
 -- On an open run a true or false is the two-valued verdict of every closed run that begins with the kept states.
 abbrev pub Foretells : Type 0
 Foretells =
     (largest : ℕ) (kept : Run) (p : Property) → lawful kept.shape.width largest p ≡ true
-    → endures kept.mark ≡ false → All (Fits kept.shape) kept.states → 0 < length kept.states
+    → endures kept.mark ≡ false → AllByRecursion (Fits kept.shape) kept.states → 0 < length kept.states
     → (closed : Run) → BeginsWith kept closed → Tells p closed.states (verdict p kept.mark kept.states)
 
 -- Once the run is closed, or its stays add up to the reach, no verdict is undecided.
 abbrev pub Settles : Type 0
 Settles =
     (shape : Shape) (largest : ℕ) (p : Property) → lawful shape.width largest p ≡ true
-    → (mark : Mark) (run : List State) → All (Fits shape) run → 0 < length run
+    → (mark : Mark) (run : List State) → AllByRecursion (Fits shape) run → 0 < length run
     → (endures mark ≡ true) ⊎ (reach_of shape.longest p ≤ ticks run) → verdict p mark run ≢ Undecided
 
 -- The moments that are counted from state i are those of the run without its first i states.
@@ -80,7 +80,7 @@ CountedFrom = (mark : Mark) (run : List State) (i t j : ℕ) → Belongs mark ru
 -- A tour visits the states to which a moment of the window belongs, each once, in order, on open and on closed runs.
 abbrev pub VisitsByMoments : Type 0
 VisitsByMoments =
-    (mark : Mark) (w : Window) → w.first ≤ w.last → (run : List State) → All (λ s. 1 ≤ s.stay) run
+    (mark : Mark) (w : Window) → w.first ≤ w.last → (run : List State) → AllByRecursion (λ s. 1 ≤ s.stay) run
     → (js : List ℕ) × InOrder mark w run js × (visited mark w run ≡ map (λ j. drop j run) js)
 
 -- A window is whole exactly when its last moment has a state.
@@ -92,7 +92,7 @@ WholeByMoment =
 abbrev pub NumbersBounded : Type 0
 NumbersBounded =
     (width largest : ℕ) (inside : Bool) (m : Measure) → lawful_measure width largest inside m ≡ true → largest ≤ most_numeral
-    → (mark : Mark) (run : List State) → length run ≤ most_states → All (λ s. All (λ v. unsigned_abs v ≤ largest) s.values) run
+    → (mark : Mark) (run : List State) → length run ≤ most_states → AllByRecursion (λ s. AllByRecursion (λ v. unsigned_abs v ≤ largest) s.values) run
     → (z : ℤ) → value m mark run ≡ Some z → (unsigned_abs z ≤ bound_of largest m) × (bound_of largest m ≤ most_bound)
 
 -- Measures over a window, F, G and U are as their rules say, over the visited states.
@@ -114,5 +114,5 @@ VerdictsLast =
 
 abbrev pub StatesFit : Type 0
 StatesFit =
-    (most : ℕ) (m : Meaning) → All (Fits m.run.shape) m.run.states
-    → (steps : List Step) → All (Fits (after_steps most steps m).run.shape) (after_steps most steps m).run.states
+    (most : ℕ) (m : Meaning) → AllByRecursion (Fits m.run.shape) m.run.states
+    → (steps : List Step) → AllByRecursion (Fits (after_steps most steps m).run.shape) (after_steps most steps m).run.states
