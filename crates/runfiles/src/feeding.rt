@@ -70,10 +70,10 @@ fn place_of(refusal: Refusal, largest: u64, row: &Record) -> usize
 
 // Offers a record to a run.
 fn offer<R: Recorder>(recorder: &mut R, row: &Record) -> Result<bool, RunFault>
-    ensures answer { result ≡ answer_to largest (room recorder.old) (price recorder.old) (meaning recorder.old) (Ok (Some (numbers_of row.now))) }
-    ensures after { meaning recorder.new ≡ meaning_after largest (room recorder.old) (price recorder.old) (meaning recorder.old) (Ok (Some (numbers_of row.now))) }
-    ensures cells { cells recorder.new ≡ cells_after largest (room recorder.old) (price recorder.old) (meaning recorder.old) (cells recorder.old) (written recorder.old) (Ok (Some (numbers_of row.now))) }
-    ensures place { place recorder.new ≡ place recorder.old }
+    ensures answer { result ≡ answer_to R.largest (R.room recorder.old) (R.price recorder.old) (R.meaning recorder.old) (Ok (Some (numbers_of row.now))) }
+    ensures after { R.meaning recorder.new ≡ meaning_after R.largest (R.room recorder.old) (R.price recorder.old) (R.meaning recorder.old) (Ok (Some (numbers_of row.now))) }
+    ensures cells { R.cells recorder.new ≡ cells_after R.largest (R.room recorder.old) (R.price recorder.old) (R.meaning recorder.old) (R.cells recorder.old) (R.written recorder.old) (Ok (Some (numbers_of row.now))) }
+    ensures place { R.place recorder.new ≡ R.place recorder.old }
 {
     match recorder.feed(row.stay(), offered_values(row)) {
         Ok(()) => Ok(true),
@@ -90,10 +90,10 @@ fn offer<R: Recorder>(recorder: &mut R, row: &Record) -> Result<bool, RunFault>
 
 // Feeds the next record of a file to a run: true once it is fed, false once the file has ended. A refusal changes neither the reader nor the run.
 pub fn feed_record<R: Recorder>(fields: &mut Fields<'_>, recorder: &mut R) -> Result<bool, RunFault>
-    ensures answer { result ≡ answer_to largest (room recorder.old) (price recorder.old) (meaning recorder.old) (record_at fields.old.bytes.now (cursor fields.old)) }
-    ensures after { meaning recorder.new ≡ meaning_after largest (room recorder.old) (price recorder.old) (meaning recorder.old) (record_at fields.old.bytes.now (cursor fields.old)) }
-    ensures cells { cells recorder.new ≡ cells_after largest (room recorder.old) (price recorder.old) (meaning recorder.old) (cells recorder.old) (written recorder.old) (record_at fields.old.bytes.now (cursor fields.old)) }
-    ensures place { place recorder.new ≡ place recorder.old }
+    ensures answer { result ≡ answer_to R.largest (R.room recorder.old) (R.price recorder.old) (R.meaning recorder.old) (record_at fields.old.bytes.now (cursor fields.old)) }
+    ensures after { R.meaning recorder.new ≡ meaning_after R.largest (R.room recorder.old) (R.price recorder.old) (R.meaning recorder.old) (record_at fields.old.bytes.now (cursor fields.old)) }
+    ensures cells { R.cells recorder.new ≡ cells_after R.largest (R.room recorder.old) (R.price recorder.old) (R.meaning recorder.old) (R.cells recorder.old) (R.written recorder.old) (record_at fields.old.bytes.now (cursor fields.old)) }
+    ensures place { R.place recorder.new ≡ R.place recorder.old }
     ensures reader { cursor fields.new ≡ (if is_ok result then behind_record fields.old.bytes.now (cursor fields.old) else cursor fields.old) }
     ensures bytes { fields.new.bytes ≡ fields.old.bytes }
 {

@@ -30,7 +30,7 @@ impl Summary {
     }
 
     pub fn of<R: Recorder>(recorder: &R) -> Summary
-        ensures { result ≡ summary_of (meaning recorder.now).run.states }
+        ensures { result ≡ summary_of (R.meaning recorder.now).run.states }
     {
         let mut summary = Summary::new();
         for i in 0..recorder.count() {
@@ -46,7 +46,7 @@ impl Summary {
     fn add<R: Recorder>(&mut self, stay: u64, recorder: &R, i: usize)
         requires few { self.old.states < 2 ^ 63 }
         requires small { self.old.ticks ≤ self.old.states * 2 ^ 64 }
-        ensures sums { self.new ≡ with_state self.old (state_of stay (values_at (slice_get (meaning recorder.now).run.states i))) }
+        ensures sums { self.new ≡ with_state self.old (state_of stay (values_at (slice_get (R.meaning recorder.now).run.states i))) }
         ensures small { self.new.ticks ≤ self.new.states * 2 ^ 64 }
     {
         self.states += 1;
@@ -69,7 +69,7 @@ impl Summary {
 
 // Takes the values of a state into the ranges of their columns.
 fn widen<R: Recorder>(ranges: &mut [Range], recorder: &R, i: usize)
-    ensures { ranges.new ≡ widened ranges.old (values_at (slice_get (meaning recorder.now).run.states i)) }
+    ensures { ranges.new ≡ widened ranges.old (values_at (slice_get (R.meaning recorder.now).run.states i)) }
 {
     for column in 0..ranges.len() {
         if let Some(value) = recorder.value(i, column) {
