@@ -11,7 +11,7 @@ use Rattle.survey.proofs.whole.Survey.of.Goals as goal
 pub returns : goal.returns
 returns c =
     let fields = c.over-fields.result in
-    let read = c.read-header.new.fields in
+    let read = c.header.new.self in
     let rows = c.feed_records.new.rows in
     let told = c.in_ok-header.ensures in
     let started = c.start-rows.ensures in
