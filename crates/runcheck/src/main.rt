@@ -1,5 +1,6 @@
 // Checks the run file run.csv of the working folder: prints what it holds, or why it is refused.
 #![tactic(auto)]
+
 use anyhow::anyhow;
 use std::fs;
 use std::io::Write;

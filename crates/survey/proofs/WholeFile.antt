@@ -1,11 +1,11 @@
 -- What the calls on a whole file come to. Assumes nothing.
-use Rattle.std.proofs.Common.{◌≡◌, ℕ, ◌+◌, List, length, Ok, sym, ap, ◌∙◌}
+use Rattle.std.proofs.Common.{◌≡◌, ℕ, ◌+◌, List, length, Ok, ap, ◌∙◌}
 use Rattle.records.specs.Cursor.{Cursor, start}
 use Rattle.records.specs.Headers.{names_at, behind_header}
 use Rattle.runs.specs.Runs.{Meaning}
 use Rattle.survey.specs.Fed.{rows_free, fed_from}
 use Rattle.survey.specs.Summaries.{summary_of}
-use Rattle.survey.specs.Surveys.{Surveyed, held_by, started, surveyed_by, survey_of}
+use Rattle.survey.specs.Surveys.{held_by, started, surveyed_by, survey_of}
 use Rattle.survey.specs.declared.summary.Summary.{Summary}
 
 -- The reader begins at `first` on `held`, stands at `behind` on `kept` behind the header, and the run m comes from `begun`.

@@ -1,5 +1,5 @@
 -- The run that a file means, kept in rows. Assumes nothing.
-use Rattle.std.specs.Prelude.{ℕ, zero, suc, ◌+◌, ◌-◌, ◌*◌, Bool, true, false, cond, List, [], length, Ok, Err, Option, Result, nat_le}
+use Rattle.std.specs.Prelude.{ℕ, zero, suc, ◌+◌, ◌-◌, ◌*◌, Bool, true, false, cond, List, length, Ok, Err, Result, nat_le}
 use Rattle.records.specs.Cursor.{Cursor}
 use Rattle.records.specs.Records.{record_at, behind_record}
 use Rattle.runs.specs.Runs.{Meaning}

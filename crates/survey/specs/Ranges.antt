@@ -1,5 +1,5 @@
 -- The least and the greatest of some numbers. Assumes nothing.
-use Rattle.std.specs.Prelude.{ℕ, ◌-◌, ◌^◌, List, [], ◌∷◌, ℤ, pos, negsuc}
+use Rattle.std.specs.Prelude.{◌-◌, ◌^◌, List, [], ◌∷◌, ℤ, pos, negsuc}
 use Rattle.std.specs.Int.{int_min, int_max}
 use Rattle.survey.specs.declared.range.Range.{Range}
 

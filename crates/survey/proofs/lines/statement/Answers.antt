@@ -1,4 +1,4 @@
-use Rattle.std.proofs.Common.{◌≡◌, ℕ, length, IfOk, vec_items, ◌∙◌, subst, rules}
+use Rattle.std.proofs.Common.{◌≡◌, length, IfOk, vec_items, subst, rules}
 use Rattle.survey.specs.Statements.{statement_by}
 use Rattle.survey.specs.Surveys.{survey_of}
 use Rattle.survey.proofs.lines.statement.Goals as goal

@@ -1,4 +1,4 @@
-use Rattle.std.proofs.Common.{length, refl, ap, ◌∙◌}
+use Rattle.std.proofs.Common.{length, ap, ◌∙◌}
 use Rattle.records.specs.Told.{cursor}
 use Rattle.records.specs.Told.{names}
 use Rattle.runs.specs.Shapes.{begun}
