@@ -1,5 +1,5 @@
 -- A loop that reads the fields of a record one after the other and gathers what they come to. Assumes nothing.
-use Rattle.std.proofs.Common.{◌≡◌, ℕ, ◌<◌, ◌≤◌, true, false, List, [], ◌∷◌, ◌++◌, length, Some, None, Ok, Err, Option, Result, sym, refl, ap, ◌∙◌, subst, arith, MutBor}
+use Rattle.std.proofs.Common.{◌≡◌, ℕ, ◌<◌, ◌≤◌, true, false, List, [], ◌∷◌, ◌++◌, length, Some, None, Ok, Err, Option, Result, sym, refl, ap, ◌∙◌, subst, arith, Bor}
 use Rattle.records.specs.Cursor.{Cursor, Seen, field_at, moved}
 use Rattle.records.specs.Fields.{is_field}
 use Rattle.records.specs.RecordFields.{read_by, row, behind_row, gathered}
@@ -25,7 +25,7 @@ module _ {A D : Type 0} (way : Way A D) where
     pub on : d ≡ moved bs c
 
   -- a call speaks of the bytes that the reader holds, which stay the same
-  pub called : {here bytes : MutBor (List ℕ)} {c d : Cursor} {r : Result (Option A) RecordFault} → here ≡ bytes → r ≡ read_by way.read (field_at here.now c) → d ≡ moved here.now c → Call bytes.now c d r
+  pub called : {here bytes : Bor (List ℕ)} {c d : Cursor} {r : Result (Option A) RecordFault} → here ≡ bytes → r ≡ read_by way.read (field_at here.now c) → d ≡ moved here.now c → Call bytes.now c d r
   called {here} {bytes} {c} {d} {r} same told on = record {
     told = subst (λ b. r ≡ read_by way.read (field_at b.now c)) same told;
     on = subst (λ b. d ≡ moved b.now c) same on;

@@ -1,10 +1,10 @@
 -- The fields of a record, read one after the other by a loop. Assumes nothing.
-use Rattle.std.proofs.Common.{◌≡◌, ℕ, zero, suc, ◌+◌, ◌<◌, ◌≤◌, Bool, true, false, List, [], ◌∷◌, ◌++◌, length, Some, None, Ok, Err, Option, Result, sym, refl, ap, ◌∙◌, append_assoc, append-nil, arith}
+use Rattle.std.proofs.Common.{◌≡◌, ℕ, zero, suc, ◌+◌, ◌<◌, ◌≤◌, true, false, List, [], ◌∷◌, ◌++◌, length, Some, None, Ok, Err, Option, Result, sym, refl, ap, ◌∙◌, append_assoc, append-nil, arith}
 use Rattle.std.proofs.lemmas.List.{length_push}
 use Rattle.std.proofs.lemmas.Bool.{true≢false, false≢true}
 use Rattle.records.specs.Cursor.{Cursor, Seen, field_at, moved}
 use Rattle.records.specs.Fields.{is_field}
-use Rattle.records.specs.RecordFields.{Row, read_by, with_first, then_rest, row_here, row_from, row}
+use Rattle.records.specs.RecordFields.{Row, read_by, then_rest, row_here, row_from, row}
 use Rattle.records.specs.declared.cut.Next.{Next}
 use Rattle.records.specs.declared.cut.Next.TheVariants.{Field, Record, End}
 use Rattle.records.specs.declared.fault.RecordFault.{RecordFault}

@@ -1,5 +1,5 @@
 -- The fields of a header, gathered one after the other. Assumes nothing.
-use Rattle.std.proofs.Common.{◌≡◌, ℕ, ◌+◌, Bool, true, false, cond, List, [], ◌∷◌, ◌++◌, map, take, Some, Ok, Err, sym, ap, ◌∙◌, arith, Bor}
+use Rattle.std.proofs.Common.{◌≡◌, ℕ, ◌+◌, Bool, true, false, cond, List, [], ◌∷◌, ◌++◌, take, Some, Ok, Err, sym, ap, ◌∙◌, arith, Bor}
 use Rattle.std.proofs.lemmas.List.{map_push, take-map}
 use Rattle.records.specs.Bytes.{quote}
 use Rattle.records.specs.Cursor.{Seen}

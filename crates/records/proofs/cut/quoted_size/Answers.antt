@@ -3,7 +3,7 @@ use Rattle.std.proofs.lemmas.List.{at_drop_all}
 use Rattle.records.specs.Fields.{closing}
 use Rattle.records.proofs.Closing.{past_quote, closed, past_text, broken}
 use Rattle.records.proofs.cut.quoted_size.Goals as goal
-use Rattle.records.proofs.cut.quoted_size.Goals.{then-b-eq34, else-b-eq34+else-quote+else-not-is-quotable}
+use Rattle.records.proofs.cut.quoted_size.Goals.{then-b-eq34, else-b-eq34+else-quote+else-not-is_quotable}
 
 pub loop-i-preserved : goal.loop-i-preserved
 loop-i-preserved c =
@@ -12,8 +12,8 @@ loop-i-preserved c =
         rw w.quote-is (c.loop-i.invariant.0 ∙ past_quote _ _ _ c.loop-i-test.true w.if-b-eq34.true),
         λ _. omega arith,
       )
-      | else-b-eq34+else-quote+else-not-is-quotable w ↦ (
-        rw w.quote-is (c.loop-i.invariant.0 ∙ past_text _ _ _ c.loop-i-test.true w.if-b-eq34.false w.if-quote.false (sym w.if-not-is-quotable.ensures)),
+      | else-b-eq34+else-quote+else-not-is_quotable w ↦ (
+        rw w.quote-is (c.loop-i.invariant.0 ∙ past_text _ _ _ c.loop-i-test.true w.if-b-eq34.false w.if-quote.false (sym w.if-not-is_quotable.ensures)),
         λ _. omega arith,
       )
     ]
@@ -24,9 +24,9 @@ returns-then-quote c = record {
   bound = (c.loop-i.invariant.1 c.if-quote.true, omega arith);
 }
 
-pub returns-then-not-is-quotable : goal.returns-then-not-is-quotable
-returns-then-not-is-quotable c = record {
-  value = sym (c.loop-i.invariant.0 ∙ broken _ _ _ c.loop-i-test.true c.if-b-eq34.false c.if-quote.false (sym c.if-not-is-quotable.ensures));
+pub returns-then-not-is_quotable : goal.returns-then-not-is_quotable
+returns-then-not-is_quotable c = record {
+  value = sym (c.loop-i.invariant.0 ∙ broken _ _ _ c.loop-i-test.true c.if-b-eq34.false c.if-quote.false (sym c.if-not-is_quotable.ensures));
   bound = tt;
 }
 

@@ -3,6 +3,6 @@ use Rattle.std.proofs.lemmas.List.{take_rest}
 use Rattle.std.proofs.lemmas.Bool.{cond-true}
 use Rattle.records.proofs.numeral.after_sign.Goals as goal
 
-pub returns-then-is-signed : goal.returns-then-is-signed
-returns-then-is-signed c =
-    take_rest c.args.text.now 1 ∙ sym (cond-true _ _ _ (sym c.if-is-signed.ensures.value))
+pub returns-then-is_signed : goal.returns-then-is_signed
+returns-then-is_signed c =
+    take_rest c.args.text.now 1 ∙ sym (cond-true _ _ _ (sym c.if-is_signed.ensures.value))

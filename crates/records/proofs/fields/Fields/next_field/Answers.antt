@@ -27,10 +27,10 @@ returns-then-self c = record {
   law = exact _;
 }
 
-pub returns-in-default : goal.returns-in-default
-returns-in-default c =
+pub returns-in_default : goal.returns-in_default
+returns-in_default c =
     let bs = c.args.self.now.bytes.now in
-    let told = c.in-default.ensures.value in
+    let told = c.in_default.ensures.value in
     record {
       answer = sym (answer_by_lem bs (cursor c.args.self.now) _ c.if-self.false told);
       after = sym (moved_by bs (cursor c.args.self.now) _ c.if-self.false told);
@@ -43,8 +43,8 @@ returns c =
     let bs = c.args.self.now.bytes.now in
     let told = c.in-Some.ensures.value in
     record {
-      answer = rw (c.text-of-text.ensures, take_rest) (sym (answer_by_lem bs (cursor c.args.self.now) _ c.if-self.false told));
-      after = rw (c.next-place-self.ensures.place, c.is-end-self.ensures) (sym (moved_by bs (cursor c.args.self.now) _ c.if-self.false told));
+      answer = rw (c.text_of-text.ensures, take_rest) (sym (answer_by_lem bs (cursor c.args.self.now) _ c.if-self.false told));
+      after = rw (c.next_place-self.ensures.place, c.is_end-self.ensures) (sym (moved_by bs (cursor c.args.self.now) _ c.if-self.false told));
       bytes = refl;
       law = exact _;
     }

@@ -3,8 +3,8 @@ use Rattle.records.specs.Told.{names}
 use Rattle.records.proofs.NameSearch.{column_next, column_past, column_end}
 use Rattle.records.proofs.heading.Header.column.Goals as goal
 
-pub returns-in-default : goal.returns-in-default
-returns-in-default c = sym (c.loop-column.invariant ∙ column_past (names c.args.self.now) c.loop-column.column _ c.in-default.ensures)
+pub returns-in_default : goal.returns-in_default
+returns-in_default c = sym (c.loop-column.invariant ∙ column_past (names c.args.self.now) c.loop-column.column _ c.in_default.ensures)
 
 pub returns-then-same : goal.returns-then-same
 returns-then-same c =

@@ -3,9 +3,9 @@ use Rattle.records.specs.Told.{titles}
 use Rattle.records.proofs.NameSearch.{among_next, among_past, among_end}
 use Rattle.records.proofs.heading.Header.is_among.Goals as goal
 
-pub returns-in-default : goal.returns-in-default
-returns-in-default c =
-    sym (c.loop-i.invariant ∙ among_past (titles c.args.self.now) c.args.n c.loop-i.i _ c.loop-i-test.true c.in-default.ensures)
+pub returns-in_default : goal.returns-in_default
+returns-in_default c =
+    sym (c.loop-i.invariant ∙ among_past (titles c.args.self.now) c.args.n c.loop-i.i _ c.loop-i-test.true c.in_default.ensures)
 
 pub returns-then-same : goal.returns-then-same
 returns-then-same c =
