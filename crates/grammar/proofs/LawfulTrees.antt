@@ -1,6 +1,6 @@
 -- A tree of which no token breaks a rule is a formula within the limits.
-use Rattle.std.proofs.Common.{◌≡◌, ℕ, zero, suc, ◌+◌, ◌<◌, ◌≤◌, Bool, true, false, ◌&&◌, ltb, leb, List, [], ◌∷◌, ◌++◌, nat_abs, is_some, Some, None, Option, unwrap_or, sym, refl, ap, ◌∙◌, arith, leb-true}
-use Rattle.std.specs.List.{AllByRecursion as All}
+use Rattle.std.proofs.Common.{◌≡◌, ℕ, zero, suc, ◌<◌, ◌≤◌, Bool, true, false, ◌&&◌, ltb, leb, List, [], ◌∷◌, ◌++◌, nat_abs, is_some, Some, None, Option, unwrap_or, sym, refl, ap, ◌∙◌, arith, leb-true}
+use Rattle.std.specs.List.{AllByRecursion}
 use Rattle.std.proofs.lemmas.Bool.Decides.{nat_tests}
 use Rattle.parts.specs.Limits.{lawful, lawful_measure, lawful_prefix, lawful_connective, lawful_window}
 use Rattle.tokens.specs.Tokens.{Tok}
@@ -11,37 +11,37 @@ use Rattle.grammar.specs.Layers.{MeasureText, a_numeral, a_variable, a_unary, a_
 use Rattle.grammar.specs.Meanings.{Columns, signed, measure_of, prefix_of, connective_of, property_of, window}
 use Rattle.grammar.specs.Rules.{rules_for}
 use Rattle.grammar.specs.Steps.{Rules, Step, unless, measure_steps, window_steps, lead_steps, link_steps, left_steps, property_steps}
-use Rattle.grammar.specs.Trees.{MeasureTree, numeral, Lead, negation, next, skipping, eventually, always, Link, and, or, implies, iff, until, PropertyTree}
-use Rattle.grammar.proofs.FirstBroken.{first_broken_lem}
+use Rattle.grammar.specs.Trees.{MeasureTree, Lead, negation, next, skipping, eventually, always, Link, and, or, implies, iff, until, PropertyTree}
+use Rattle.grammar.proofs.FirstBroken.{first_broken_step}
 use Rattle.grammar.proofs.Keeping.{kept, none_or, unless_none}
 
 -- what a step keeps that breaks no rule
 abbrev pub Keeps : Rules → Step → Type 0
 Keeps rules x = (x.breaks ≡ None) × (x.depth ≤ rules.nesting)
 
-pub all_split : {X : Type 0} (P : X → Type 0) (xs ys : List X) → All P (xs ++ ys) → All P xs × All P ys
+pub all_split : {X : Type 0} (P : X → Type 0) (xs ys : List X) → AllByRecursion P (xs ++ ys) → AllByRecursion P xs × AllByRecursion P ys
 all_split P [] ys h = (tt, h)
 all_split P (x ∷ xs) ys h = let rest = all_split P xs ys h.1 in ((h.0, rest.0), rest.1)
 
-pub all_kept : (rules : Rules) (n : ℕ) (xs : List Step) (i : ℕ) → first_broken rules n xs i ≡ None → All (Keeps rules) xs
+pub all_kept : (rules : Rules) (n : ℕ) (xs : List Step) (i : ℕ) → first_broken rules n xs i ≡ None → AllByRecursion (Keeps rules) xs
 all_kept rules n [] i e = tt
 all_kept rules n (x ∷ xs) i e = by (broken_by rules n x) refl (λ k. all_kept rules (brought_by n x) xs (suc i) k)
   where
-    by : (o : Option ℕ) → broken_by rules n x ≡ o → (first_broken rules (brought_by n x) xs (suc i) ≡ None → All (Keeps rules) xs) → All (Keeps rules) (x ∷ xs)
+    by : (o : Option ℕ) → broken_by rules n x ≡ o → (first_broken rules (brought_by n x) xs (suc i) ≡ None → AllByRecursion (Keeps rules) xs) → AllByRecursion (Keeps rules) (x ∷ xs)
     by None b rest =
         let here = kept rules n x b in
-        ((here.0, leb-true x.depth rules.nesting here.2), rest (sym (first_broken_lem rules n x xs i b) ∙ e))
-    by (Some number) b rest = absurd (let none : Some (number, i) ≡ None = sym (first_broken_lem rules n x xs i b) ∙ e in let z : ◌≡◌ {A = ℕ} 0 1 = cc in omega arith)
+        ((here.0, leb-true x.depth rules.nesting here.2), rest (sym (first_broken_step rules n x xs i b) ∙ e))
+    by (Some number) b rest = absurd (let none : Some (number, i) ≡ None = sym (first_broken_step rules n x xs i b) ∙ e in let z : ◌≡◌ {A = ℕ} 0 1 = cc in omega arith)
 
 and_intro : (a b : Bool) → a ≡ true → b ≡ true → (a && b) ≡ true
 and_intro true b p q = q
 and_intro false b p q = p
 
-magnitude_of_lem : (s : Sign) (n : ℕ) → nat_abs (signed s n) ≡ n
-magnitude_of_lem Unsigned n = refl
-magnitude_of_lem Plus n = refl
-magnitude_of_lem Minus zero = refl
-magnitude_of_lem Minus (suc n) = refl
+magnitude_of_signed : (s : Sign) (n : ℕ) → nat_abs (signed s n) ≡ n
+magnitude_of_signed Unsigned n = refl
+magnitude_of_signed Plus n = refl
+magnitude_of_signed Minus zero = refl
+magnitude_of_signed Minus (suc n) = refl
 
 known_column : (o : Option ℕ) (width : ℕ) → is_some o ≡ true → ((v : ℕ) → o ≡ Some v → v < width) → ltb (unwrap_or o 0) width ≡ true
 known_column None width e h = cc
@@ -52,7 +52,7 @@ module _ (columns : Columns) (largest width : ℕ) (known : (name : List ℕ) (v
   rules = rules_for columns largest
 
   abbrev Kept : List Step → Type 0
-  Kept xs = All (Keeps rules) xs
+  Kept xs = AllByRecursion (Keeps rules) xs
 
   window_lawful : (a b : ℕ) → Kept (window_steps rules a b) → lawful_window (window a b) ≡ true
   window_lawful a b h =
@@ -60,7 +60,7 @@ module _ (columns : Columns) (largest width : ℕ) (known : (name : List ℕ) (v
       and_intro (leb a b) (leb b 1000000000) (unless_none (rules.order a b) 4 ends.1) (unless_none (rules.numeral b) 3 ends.0)
 
   pub measure_lawful : {inside : Bool} {ts : List Tok} {m : MeasureTree} (d : ℕ) → MeasureText inside ts m → Kept (measure_steps rules d m) → lawful_measure width largest inside (measure_of columns m) ≡ true
-  measure_lawful d (a_numeral {inside} {s} {n}) h = ap (λ (k : ℕ). leb k 1000000000) (magnitude_of_lem s n) ∙ unless_none (rules.numeral n) 3 h.0.0
+  measure_lawful d (a_numeral {inside} {s} {n}) h = ap (λ (k : ℕ). leb k 1000000000) (magnitude_of_signed s n) ∙ unless_none (rules.numeral n) 3 h.0.0
   measure_lawful d (a_variable {inside} {name}) h = known_column (columns name) width (unless_none (rules.column name) 5 h.0.0) (known name)
   measure_lawful d (a_unary {inside} {u} {ms} {m} t) h =
       let parts = all_split (Keeps rules) (measure_steps rules (suc d) m) _ h.1.1 in

@@ -16,9 +16,9 @@ linked_behind : Rules → (Reader PropertyTree) → PropertyTree → ConnectiveS
 linked_behind rules inner p y n s = and_then (link rules y n s) (λ l n s. and_then (inner n s) (λ q n s. got (joined l p q) n s))
 
 module _ (rules : Rules) where
-  linked_behind_lem : (inner : Reader PropertyTree) (p : PropertyTree) (y : ConnectiveSign) (n : ℕ) (x : Spot) (s : List Spot) → leb (suc n) rules.parts ≡ true → linked rules inner p y n (x ∷ s) ≡ linked_behind rules inner p y (suc n) s
+  linked_is_behind : (inner : Reader PropertyTree) (p : PropertyTree) (y : ConnectiveSign) (n : ℕ) (x : Spot) (s : List Spot) → leb (suc n) rules.parts ≡ true → linked rules inner p y n (x ∷ s) ≡ linked_behind rules inner p y (suc n) s
   unfolding linked_behind
-  linked_behind_lem inner p y n x s e = ap (λ (b : Bool). and_then (cond b (got tt (suc n) (x ∷ s)) (refuse 6 (x ∷ s))) (λ _ n s. and_then (link rules y n (rest s)) (λ l n s. and_then (inner n s) (λ q n s. got (joined l p q) n s)))) e
+  linked_is_behind inner p y n x s e = ap (λ (b : Bool). and_then (cond b (got tt (suc n) (x ∷ s)) (refuse 6 (x ∷ s))) (λ _ n s. and_then (link rules y n (rest s)) (λ l n s. and_then (inner n s) (λ q n s. got (joined l p q) n s)))) e
 
   linked_full : (inner : Reader PropertyTree) (p : PropertyTree) (y : ConnectiveSign) (n : ℕ) (x : Spot) (s : List Spot) → leb (suc n) rules.parts ≡ false → linked rules inner p y n (x ∷ s) ≡ fault 6 x.at (x ∷ s)
   linked_full inner p y n x s e = ap (λ (b : Bool). and_then (cond b (got tt (suc n) (x ∷ s)) (refuse 6 (x ∷ s))) (λ _ n s. and_then (link rules y n (rest s)) (λ l n s. and_then (inner n s) (λ q n s. got (joined l p q) n s)))) e
@@ -29,7 +29,7 @@ module _ (rules : Rules) where
   link_step k level inner p y n x s r e =
       ap (λ (m : ℕ). links m rules level inner p n (x ∷ s)) (add-suc k (length s))
       ∙ ap (λ (o : Option ConnectiveSign). elim o [ None ↦ got p n (x ∷ s) | Some z ↦ and_then (linked rules inner p z n (x ∷ s)) (links (k + length s) rules level inner) ]) e
-      ∙ ap (λ (o : Outcome PropertyTree). and_then o (links (k + length s) rules level inner)) (linked_behind_lem inner p y n x s r)
+      ∙ ap (λ (o : Outcome PropertyTree). and_then o (links (k + length s) rules level inner)) (linked_is_behind inner p y n x s r)
 
 module _ (rules : Rules) (parts nesting : ℕ) (roomy : rules.parts ≤ parts) where
   linked_follows : (inner inner' : Reader PropertyTree) → FollowsReader inner' inner → (p : PropertyTree) (y : ConnectiveSign) → FollowsReader (linked_behind (lax parts nesting) inner' p y) (linked_behind rules inner p y)
@@ -77,7 +77,7 @@ module _ (rules : Rules) (parts nesting : ℕ) (roomy : rules.parts ≤ parts) w
         Again = (j : ℕ) (q : PropertyTree) (m : ℕ) (t : List Spot) → length t ≤ most → Follows (λ t. links (j + length t) (lax parts nesting) level inner' q m t) t (links most rules level inner q m t)
 
         tested : Again → (y : ConnectiveSign) → sign_at level x.tok ≡ Some y → (b : Bool) → leb (suc n) rules.parts ≡ b → Follows (λ t. links (k + length t) (lax parts nesting) level inner' p n t) (x ∷ s) (and_then (linked rules inner p y n (x ∷ s)) (links most rules level inner))
-        tested again y e true r = subst (λ (o : Outcome PropertyTree). Follows (λ t. links (k + length t) (lax parts nesting) level inner' p n t) (x ∷ s) (and_then o (links most rules level inner))) (sym (linked_behind_lem rules inner p y n x s r)) (after_link most k p y n x s (room rules parts nesting roomy (suc n) r) e (omega arith) again (linked_behind rules inner p y (suc n) s) (linked_follows inner inner' h p y (suc n) s))
+        tested again y e true r = subst (λ (o : Outcome PropertyTree). Follows (λ t. links (k + length t) (lax parts nesting) level inner' p n t) (x ∷ s) (and_then o (links most rules level inner))) (sym (linked_is_behind rules inner p y n x s r)) (after_link most k p y n x s (room rules parts nesting roomy (suc n) r) e (omega arith) again (linked_behind rules inner p y (suc n) s) (linked_follows inner inner' h p y (suc n) s))
         tested again y e false r = subst (λ (o : Outcome PropertyTree). Follows (λ t. links (k + length t) (lax parts nesting) level inner' p n t) (x ∷ s) (and_then o (links most rules level inner))) (sym (linked_full rules inner p y n x s r)) (breaks (λ z. omega arith))
 
         by : Again → (o : Option ConnectiveSign) → sign_at level x.tok ≡ o → Follows (λ t. links (k + length t) (lax parts nesting) level inner' p n t) (x ∷ s) (elim o [ None ↦ got p n (x ∷ s) | Some y ↦ and_then (linked rules inner p y n (x ∷ s)) (links most rules level inner) ])

@@ -7,7 +7,7 @@ use Rattle.grammar.specs.Laws.{steps, Reads}
 use Rattle.grammar.specs.Layers.{PropertyText, loosest}
 use Rattle.grammar.specs.Steps.{Step, window_steps, lead_steps, link_steps, left_steps, measure_steps, property_steps}
 use Rattle.grammar.specs.Trees.{MeasureTree, numeral, variable, unary, binary, over, Lead, negation, next, skipping, eventually, always, Link, and, or, implies, iff, until, PropertyTree, compare, prefixed, joined, bracketed}
-use Rattle.grammar.proofs.FirstBroken.{first_broken_lem}
+use Rattle.grammar.proofs.FirstBroken.{first_broken_step}
 use Rattle.grammar.proofs.Keeping.{judged}
 use Rattle.grammar.proofs.LaxReaders.{lax}
 use Rattle.grammar.proofs.TextTokens.{property_tokens}
@@ -48,7 +48,7 @@ module _ (parts nesting : ℕ) where
   none_broken n i h (more {x} {xs} b d p) =
       let most = brought_by_most n x in
       let kept : broken_by (lax parts nesting) n x ≡ None = judged (lax parts nesting) n x (le-leb (brought_by n x) parts (omega arith)) (le-leb x.depth nesting d) ∙ b in
-      first_broken_lem (lax parts nesting) n x xs i kept ∙ none_broken (brought_by n x) (suc i) (omega arith) p
+      first_broken_step (lax parts nesting) n x xs i kept ∙ none_broken (brought_by n x) (suc i) (omega arith) p
 
   module _ (k : ℕ) where
     mild_window : (a b : ℕ) → Mild k (window_steps (lax parts nesting) a b)

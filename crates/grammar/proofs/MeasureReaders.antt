@@ -31,8 +31,8 @@ measures rules d inside = record { steps = measure_steps rules d; has = AMeasure
 abbrev pub some_measure : MeasureTree
 some_measure = numeral Unsigned 0
 
-pub some_measure_lem : {inside : Bool} → AMeasure inside some_measure
-some_measure_lem = (token.numeral Unsigned 0 ∷ [], a_numeral)
+pub some_measure_is : {inside : Bool} → AMeasure inside some_measure
+some_measure_is = (token.numeral Unsigned 0 ∷ [], a_numeral)
 
 -- the measures with arguments that have this name
 data Called : Bool → Tok → MeasureTree → Type 0 where
@@ -96,15 +96,15 @@ module _ {rules : Rules} where
   binary_fine : {inside : Bool} {p : Reader MeasureTree} (b : Binary) (d : ℕ) → Fine rules p (measures rules d inside) → Fine rules (binary_arguments p (binary b)) (arguments rules d inside (token.binary b))
   unfolding argument_steps
   binary_fine b d fine n s r =
-      then_right none r (fine n s r) (λ l h. (binary b l some_measure, called_binary h some_measure_lem, _, refl)) (λ l n s h r w.
-      then_right w r (punctuation_fine Comma n s r) (λ _ _. (binary b l some_measure, called_binary h some_measure_lem, _, sym (append_assoc (measure_steps rules d l) (plain (mark Comma) ∷ []) (measure_steps rules d some_measure)))) (λ _ n s _ r w.
+      then_right none r (fine n s r) (λ l h. (binary b l some_measure, called_binary h some_measure_is, _, refl)) (λ l n s h r w.
+      then_right w r (punctuation_fine Comma n s r) (λ _ _. (binary b l some_measure, called_binary h some_measure_is, _, sym (append_assoc (measure_steps rules d l) (plain (mark Comma) ∷ []) (measure_steps rules d some_measure)))) (λ _ n s _ r w.
       then_right w r (fine n s r) (λ m k. (binary b l m, called_binary h k, [], simp (append_assoc, append-nil))) (λ m n s k r w.
       reads (called_binary h k) (respelled (append_assoc (measure_steps rules d l) (plain (mark Comma) ∷ []) (measure_steps rules d m)) w))))
 
   statistic_fine : {p : Reader MeasureTree} (x : Statistic) (d : ℕ) → Fine rules p (measures rules d true) → Fine rules (window_arguments rules p (over x)) (arguments rules d false (token.statistic x))
   unfolding argument_steps
   statistic_fine x d fine n s r =
-      then_right none r (window_fine n s r) (λ v _. (over x v.0 v.1 some_measure, called_statistic some_measure_lem, _, refl)) (λ v n s _ r w.
+      then_right none r (window_fine n s r) (λ v _. (over x v.0 v.1 some_measure, called_statistic some_measure_is, _, refl)) (λ v n s _ r w.
       then_right w r (fine n s r) (λ m h. (over x v.0 v.1 m, called_statistic h, [], sym (append-nil (window_steps rules v.0 v.1 ++ measure_steps rules d m)))) (λ m n s h r w.
       reads (called_statistic h) w))
 
@@ -119,21 +119,21 @@ module _ {rules : Rules} where
   measure_at_right : (d left : ℕ) (inside : Bool) {inner : Bool → Reader MeasureTree} → d + left ≡ rules.nesting → (ltb 0 left ≡ true → (b : Bool) → Fine rules (inner b) (measures rules (suc d) b)) → (t : Tok) (n place : ℕ) (s : List Spot) → Room rules n → Right rules (measures rules d inside) n (spot t place ∷ s) (measure_at rules left inside inner t n (spot t place ∷ s))
   measure_at_right d left inside deep fine (token.numeral sign k) n place s r = leaf_right d n place s (token.numeral sign k) (numeral sign k) 3 (rules.numeral k) (λ z. omega arith) refl (_, a_numeral)
   measure_at_right d left inside deep fine (token.variable name) n place s r = leaf_right d n place s (token.variable name) (variable name) 5 (rules.column name) (λ z. omega arith) refl (_, a_variable)
-  measure_at_right d left inside deep fine (token.unary u) n place s r = call_right (token.unary u) d left n place s deep r (λ l. unary_fine u (suc d) (fine l inside)) (called_unary some_measure_lem)
-  measure_at_right d left inside deep fine (token.binary b) n place s r = call_right (token.binary b) d left n place s deep r (λ l. binary_fine b (suc d) (fine l inside)) (called_binary some_measure_lem some_measure_lem)
-  measure_at_right d left true deep fine (token.statistic x) n place s r = refuses some_measure_lem refl none cannot
-  measure_at_right d left false deep fine (token.statistic x) n place s r = call_right (token.statistic x) d left n place s deep r (λ l. statistic_fine x (suc d) (fine l true)) (called_statistic {a = 0} {b = 0} some_measure_lem)
-  measure_at_right d left inside deep fine (mark q) n place s r = refuses some_measure_lem refl none cannot
-  measure_at_right d left inside deep fine change n place s r = refuses some_measure_lem refl none cannot
-  measure_at_right d left inside deep fine (comparator c) n place s r = refuses some_measure_lem refl none cannot
-  measure_at_right d left inside deep fine (prefix x) n place s r = refuses some_measure_lem refl none cannot
-  measure_at_right d left inside deep fine (connective x) n place s r = refuses some_measure_lem refl none cannot
-  measure_at_right d left inside deep fine stray n place s r = refuses some_measure_lem refl none cannot
-  measure_at_right d left inside deep fine stop n place s r = refuses some_measure_lem refl none cannot
+  measure_at_right d left inside deep fine (token.unary u) n place s r = call_right (token.unary u) d left n place s deep r (λ l. unary_fine u (suc d) (fine l inside)) (called_unary some_measure_is)
+  measure_at_right d left inside deep fine (token.binary b) n place s r = call_right (token.binary b) d left n place s deep r (λ l. binary_fine b (suc d) (fine l inside)) (called_binary some_measure_is some_measure_is)
+  measure_at_right d left true deep fine (token.statistic x) n place s r = refuses some_measure_is refl none cannot
+  measure_at_right d left false deep fine (token.statistic x) n place s r = call_right (token.statistic x) d left n place s deep r (λ l. statistic_fine x (suc d) (fine l true)) (called_statistic {a = 0} {b = 0} some_measure_is)
+  measure_at_right d left inside deep fine (mark q) n place s r = refuses some_measure_is refl none cannot
+  measure_at_right d left inside deep fine change n place s r = refuses some_measure_is refl none cannot
+  measure_at_right d left inside deep fine (comparator c) n place s r = refuses some_measure_is refl none cannot
+  measure_at_right d left inside deep fine (prefix x) n place s r = refuses some_measure_is refl none cannot
+  measure_at_right d left inside deep fine (connective x) n place s r = refuses some_measure_is refl none cannot
+  measure_at_right d left inside deep fine stray n place s r = refuses some_measure_is refl none cannot
+  measure_at_right d left inside deep fine stop n place s r = refuses some_measure_is refl none cannot
 
   pub measure_fine : (d left : ℕ) → d + left ≡ rules.nesting → (inside : Bool) → Fine rules (measure rules left inside) (measures rules d inside)
   unfolding measure
-  measure_fine d zero deep inside n [] r = refuses some_measure_lem refl none cannot
+  measure_fine d zero deep inside n [] r = refuses some_measure_is refl none cannot
   measure_fine d zero deep inside n (x ∷ s) r = measure_at_right d zero inside {inner = λ _ n s. refuse 2 s} deep (λ l. absurd (none_left l)) x.tok n x.at s r
-  measure_fine d (suc left) deep inside n [] r = refuses some_measure_lem refl none cannot
+  measure_fine d (suc left) deep inside n [] r = refuses some_measure_is refl none cannot
   measure_fine d (suc left) deep inside n (x ∷ s) r = measure_at_right d (suc left) inside deep (λ _ b. measure_fine (suc d) left (deeper d left deep) b) x.tok n x.at s r

@@ -1,6 +1,6 @@
 -- A formula can be written as deeply nested as a tree of it is, or less.
 use Rattle.std.proofs.Common.{◌≡◌, ℕ, suc, pred, ◌+◌, ◌≤◌, max, Bool, true, false, leb, List, ◌∷◌, ◌++◌, refl, ap, ◌∙◌, arith}
-use Rattle.std.specs.List.{AllByRecursion as All}
+use Rattle.std.specs.List.{AllByRecursion}
 use Rattle.std.proofs.lemmas.Bool.Decides.{nat_tests}
 use Rattle.parts.specs.Formulas as formula
 use Rattle.parts.specs.Formulas.{Property}
@@ -11,7 +11,7 @@ use Rattle.tokens.specs.Tokens.{Tok}
 use Rattle.grammar.specs.Layers.{PropertyText, a_comparison, a_prefix, a_bracket, tighter, a_link, link_level}
 use Rattle.grammar.specs.Meanings.{Columns, measure_of, connective_of, property_of}
 use Rattle.grammar.specs.Steps.{Rules, Step, measure_steps, window_steps, lead_steps, link_steps, left_steps, property_steps}
-use Rattle.grammar.specs.Trees.{MeasureTree, numeral, variable, unary, binary, over, Lead, negation, next, skipping, eventually, always, Link, and, or, implies, iff, until, PropertyTree, compare, prefixed, joined}
+use Rattle.grammar.specs.Trees.{MeasureTree, numeral, variable, unary, binary, over, Lead, negation, next, skipping, eventually, always, Link, and, or, implies, iff, until, PropertyTree, joined}
 use Rattle.grammar.proofs.LawfulTrees.{Keeps, all_split}
 
 -- a formula that may bind more loosely takes no deeper nesting, and brackets take one more
@@ -50,7 +50,7 @@ bracket_none allowed level nesting e = grind (arith, nat_tests)
 
 module _ (rules : Rules) (columns : Columns) where
   abbrev Deep : List Step → Type 0
-  Deep xs = All (Keeps rules) xs
+  Deep xs = AllByRecursion (Keeps rules) xs
 
   measure_nested : (m : MeasureTree) (d : ℕ) → d ≤ rules.nesting → Deep (measure_steps rules d m) → d + measure_nesting (measure_of columns m) ≤ rules.nesting
   measure_nested (numeral s n) d r h = omega arith

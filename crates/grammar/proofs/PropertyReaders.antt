@@ -11,7 +11,7 @@ use Rattle.grammar.specs.Reading.{got, Reader, and_then, refuse, bring, comparat
 use Rattle.grammar.specs.Steps.{Rules, Step, unless, plain, bringing, nesting, leading, link_steps, left_steps, measure_steps, property_steps}
 use Rattle.grammar.specs.Trees.{MeasureTree, Lead, Link, PropertyTree, compare, prefixed, joined, bracketed}
 use Rattle.grammar.proofs.Keeping.{Room, leb_left, plain_judged}
-use Rattle.grammar.proofs.MeasureReaders.{AMeasure, some_measure, some_measure_lem, measure_fine}
+use Rattle.grammar.proofs.MeasureReaders.{AMeasure, some_measure, some_measure_is, measure_fine}
 use Rattle.grammar.proofs.Outcomes.{Language, cannot, Right, reads, refuses, Fine, then_right, behind_right}
 use Rattle.grammar.proofs.Spelling.{Spelled, none, more, respelled}
 use Rattle.grammar.proofs.TokenKinds.{comparator_is, sign_is}
@@ -32,9 +32,9 @@ a_comparison_is changes c h k = (_, a_comparison {d = changes} {c = c} h.1 k.1)
 abbrev some_property : PropertyTree
 some_property = compare false Less some_measure some_measure
 
-some_property_lem : (level : ℕ) → AProperty level some_property
-some_property_lem zero = a_comparison_is false Less some_measure_lem some_measure_lem
-some_property_lem (suc level) = let h = some_property_lem level in (h.0, tighter h.1)
+some_property_is : (level : ℕ) → AProperty level some_property
+some_property_is zero = a_comparison_is false Less some_measure_is some_measure_is
+some_property_is (suc level) = let h = some_property_is level in (h.0, tighter h.1)
 
 bracket_is : {p : PropertyTree} → AProperty loosest p → AProperty 0 (bracketed p)
 bracket_is h = (_, a_bracket h.1)
@@ -63,7 +63,7 @@ prefixed_steps rules d p h = ap (λ (ks : List Step). ks ++ property_steps rules
 
 module _ {rules : Rules} where
   compared_right : (d left : ℕ) (changes : Bool) {n n' : ℕ} {s : List Spot} {m : MeasureTree} (s' : List Spot) → d + left ≡ rules.nesting → AMeasure false m → Room rules n' → Spelled rules n s (left_steps rules d changes m) n' s' → Right rules (properties rules d 0) n s (compared rules left changes m n' s')
-  compared_right d left changes [] deep h r w = refuses (a_comparison_is changes Less h some_measure_lem) refl w cannot
+  compared_right d left changes [] deep h r w = refuses (a_comparison_is changes Less h some_measure_is) refl w cannot
   compared_right d left changes {n} {n'} {s} {m} (x ∷ s') deep h r w = by (comparator_of x.tok) refl
     where
       ls : List Step
@@ -71,24 +71,24 @@ module _ {rules : Rules} where
 
       signed : (c : Comparator) → Spelled rules n s ls n' (spot (comparator c) x.at ∷ s') → Right rules (properties rules d 0) n s (compared_by rules left changes m (Some c) n' (spot (comparator c) x.at ∷ s'))
       signed c w =
-          behind_right (bring rules n' (spot (comparator c) x.at ∷ s')) w r (bring_right (comparator c) n' x.at s') (λ _ _. (compare changes c m some_measure, a_comparison_is changes c h some_measure_lem, _, sym (append_assoc ls (bringing (comparator c) ∷ []) (measure_steps rules d some_measure)))) (λ _ n s _ r w.
+          behind_right (bring rules n' (spot (comparator c) x.at ∷ s')) w r (bring_right (comparator c) n' x.at s') (λ _ _. (compare changes c m some_measure, a_comparison_is changes c h some_measure_is, _, sym (append_assoc ls (bringing (comparator c) ∷ []) (measure_steps rules d some_measure)))) (λ _ n s _ r w.
           then_right w r (measure_fine d left deep false n _ r) (λ k i. (compare changes c m k, a_comparison_is changes c h i, [], simp (append_assoc, append-nil))) (λ k n s i r w.
           reads (a_comparison_is changes c h i) (respelled (append_assoc ls (bringing (comparator c) ∷ []) (measure_steps rules d k)) w)))
 
       by : (o : Option Comparator) → comparator_of x.tok ≡ o → Right rules (properties rules d 0) n s (compared_by rules left changes m o n' (x ∷ s'))
-      by None e = refuses (a_comparison_is changes Less h some_measure_lem) refl w cannot
+      by None e = refuses (a_comparison_is changes Less h some_measure_is) refl w cannot
       by (Some c) e = subst (λ (t : Tok). Spelled rules n s ls n' (spot t x.at ∷ s') → Right rules (properties rules d 0) n s (compared_by rules left changes m (Some c) n' (spot t x.at ∷ s'))) (sym (comparator_is x.tok c e)) (signed c) w
 
   comparison_fine : (d left : ℕ) → d + left ≡ rules.nesting → Fine rules (comparison rules left) (properties rules d 0)
   comparison_fine d left deep n s r =
-      then_right none r (measure_fine d left deep false n s r) (λ m h. (compare false Less m some_measure, a_comparison_is false Less h some_measure_lem, _, refl)) (λ m n s h r w.
+      then_right none r (measure_fine d left deep false n s r) (λ m h. (compare false Less m some_measure, a_comparison_is false Less h some_measure_is, _, refl)) (λ m n s h r w.
       compared_right d left false s deep h r w)
 
   change_right : (d left n place : ℕ) (s : List Spot) → d + left ≡ rules.nesting → Room rules n → Right rules (properties rules d 0) n (spot change place ∷ s) (change_comparison rules left n (spot change place ∷ s))
   change_right d left n place s deep r =
-      then_right (more (plain_judged rules n change r) none) r (opening_fine d left deep n s r) (λ _ _. (compare true Less some_measure some_measure, a_comparison_is true Less some_measure_lem some_measure_lem, _, refl)) (λ _ n s _ r w.
-      then_right w r (measure_fine (suc d) (pred left) (deeper_behind d left deep (left_over d left (plain change ∷ []) (nesting (suc d) (mark Open)) deep refl w)) false n s r) (λ m h. (compare true Less m some_measure, a_comparison_is true Less h some_measure_lem, _, ap {B = List Step} (λ (ks : List Step). plain change ∷ nesting (suc d) (mark Open) ∷ ks) (append_assoc (measure_steps rules (suc d) m) (plain (mark Close) ∷ []) (bringing (comparator Less) ∷ measure_steps rules d some_measure)))) (λ m n s h r w.
-      then_right w r (punctuation_fine Close n s r) (λ _ _. (compare true Less m some_measure, a_comparison_is true Less h some_measure_lem, _, refl)) (λ _ n s _ r w.
+      then_right (more (plain_judged rules n change r) none) r (opening_fine d left deep n s r) (λ _ _. (compare true Less some_measure some_measure, a_comparison_is true Less some_measure_is some_measure_is, _, refl)) (λ _ n s _ r w.
+      then_right w r (measure_fine (suc d) (pred left) (deeper_behind d left deep (left_over d left (plain change ∷ []) (nesting (suc d) (mark Open)) deep refl w)) false n s r) (λ m h. (compare true Less m some_measure, a_comparison_is true Less h some_measure_is, _, ap {B = List Step} (λ (ks : List Step). plain change ∷ nesting (suc d) (mark Open) ∷ ks) (append_assoc (measure_steps rules (suc d) m) (plain (mark Close) ∷ []) (bringing (comparator Less) ∷ measure_steps rules d some_measure)))) (λ m n s h r w.
+      then_right w r (punctuation_fine Close n s r) (λ _ _. (compare true Less m some_measure, a_comparison_is true Less h some_measure_is, _, refl)) (λ _ n s _ r w.
       compared_right d left true s deep h r w)))
 
   prefix_sign_right : (d left n place : ℕ) (s : List Spot) (x : PrefixSign) → d + left ≡ rules.nesting → Right rules (one (leading (suc d) (prefix x))) n (spot (prefix x) place ∷ s) (prefix_sign rules left n (spot (prefix x) place ∷ s))
@@ -98,14 +98,14 @@ module _ {rules : Rules} where
 
   prefixed_right : {inner : Reader PropertyTree} (d left n place : ℕ) (s : List Spot) (x : PrefixSign) → d + left ≡ rules.nesting → Room rules n → (ltb 0 left ≡ true → Fine rules inner (properties rules (suc d) 0)) → Right rules (properties rules d 0) n (spot (prefix x) place ∷ s) (prefixed_by rules left x inner n (spot (prefix x) place ∷ s))
   prefixed_right d left n place s x deep r fine =
-      then_right none r (prefix_sign_right d left n place s x deep) (λ _ _. let h = some_lead x in (prefixed h.0 some_property, prefix_is h.1 (some_property_lem 0), _, prefixed_steps rules d some_property h.1)) (λ _ n s _ r w₀.
-      then_right w₀ r (lead_fine x n s r) (λ l h. (prefixed l some_property, prefix_is h (some_property_lem 0), _, prefixed_steps rules d some_property h)) (λ l n s h r w.
+      then_right none r (prefix_sign_right d left n place s x deep) (λ _ _. let h = some_lead x in (prefixed h.0 some_property, prefix_is h.1 (some_property_is 0), _, prefixed_steps rules d some_property h.1)) (λ _ n s _ r w₀.
+      then_right w₀ r (lead_fine x n s r) (λ l h. (prefixed l some_property, prefix_is h (some_property_is 0), _, prefixed_steps rules d some_property h)) (λ l n s h r w.
       then_right w r (fine (left_over d left [] (leading (suc d) (prefix x)) deep refl w₀) n s r) (λ p i. (prefixed l p, prefix_is h i, [], prefixed_steps rules d p h ∙ sym (append-nil _))) (λ p n s i r w.
       reads (prefix_is h i) (respelled (sym (prefixed_steps rules d p h)) w))))
 
   bracketed_fine : {whole : Reader PropertyTree} (d left : ℕ) → d + left ≡ rules.nesting → (ltb 0 left ≡ true → Fine rules whole (properties rules (suc d) loosest)) → Fine rules (bracketed_by left whole) (properties rules d 0)
   bracketed_fine d left deep fine n s r =
-      then_right none r (opening_fine d left deep n s r) (λ _ _. (bracketed some_property, bracket_is (some_property_lem loosest), _, refl)) (λ _ n s _ r w.
+      then_right none r (opening_fine d left deep n s r) (λ _ _. (bracketed some_property, bracket_is (some_property_is loosest), _, refl)) (λ _ n s _ r w.
       then_right w r (fine (left_over d left [] (nesting (suc d) (mark Open)) deep refl w) n s r) (λ p h. (bracketed p, bracket_is h, _, refl)) (λ p n s h r w.
       then_right w r (punctuation_fine Close n s r) (λ _ _. (bracketed p, bracket_is h, [], sym (append-nil _))) (λ _ n s _ r w.
       reads (bracket_is h) w)))
@@ -126,8 +126,8 @@ module _ {rules : Rules} where
 
   linked_right : {inner : Reader PropertyTree} {p : PropertyTree} (d level : ℕ) {n n' : ℕ} {s : List Spot} (x : ConnectiveSign) (place : ℕ) (t : List Spot) → Fine rules inner (properties rules d level) → sign_level x ≡ suc level → AProperty (suc level) p → Room rules n' → Spelled rules n s (property_steps rules d p) n' (spot (connective x) place ∷ t) → Right rules (properties rules d (suc level)) n s (linked rules inner p x n' (spot (connective x) place ∷ t))
   linked_right {p} d level {n'} x place t fine e hp r w =
-      behind_right (bring rules n' (spot (connective x) place ∷ t)) w r (bring_right (connective x) n' place t) (λ _ _. let l = some_link x in (joined l.0 p some_property, link_is e l.1 hp (some_property_lem level), _, steps some_property l.1 ∙ append_assoc (ps ++ (bringing (connective x) ∷ [])) (link_rest rules l.0) (property_steps rules d some_property))) (λ _ n s _ r w.
-      then_right w r (link_fine x n _ r) (λ l h. (joined l p some_property, link_is e h hp (some_property_lem level), _, steps some_property h)) (λ l n s h r w.
+      behind_right (bring rules n' (spot (connective x) place ∷ t)) w r (bring_right (connective x) n' place t) (λ _ _. let l = some_link x in (joined l.0 p some_property, link_is e l.1 hp (some_property_is level), _, steps some_property l.1 ∙ append_assoc (ps ++ (bringing (connective x) ∷ [])) (link_rest rules l.0) (property_steps rules d some_property))) (λ _ n s _ r w.
+      then_right w r (link_fine x n _ r) (λ l h. (joined l p some_property, link_is e h hp (some_property_is level), _, steps some_property h)) (λ l n s h r w.
       then_right w r (fine n s r) (λ q i. (joined l p q, link_is e h hp i, [], steps q h ∙ sym (append-nil _))) (λ q n s i r w.
       reads (link_is e h hp i) (respelled (sym (steps q h)) w))))
     where

@@ -39,7 +39,7 @@ linked (until a b) p q = published.until a b p q
 
 derived_at : {level : ℕ} {ts : List Tok} {p : PropertyTree} → PropertyText level ts p → LogicProperty ts
 derived_at (a_comparison {d = false} {c = c} m n) = published.comparison c (temporal m) (temporal n)
-derived_at (a_comparison {d = true} {c = c} m n) = published.change_comparison_lem c (temporal m) (temporal n)
+derived_at (a_comparison {d = true} {c = c} m n) = published.change_comparison c (temporal m) (temporal n)
 derived_at (a_prefix {l = l} t p) = led l t (derived_at p)
 derived_at (a_bracket p) = published.bracket (derived_at p)
 derived_at (tighter p) = derived_at p
@@ -119,7 +119,7 @@ join l {ps = ps} p (a_link {l = k} {ps = qs} {qs = ks} e q r) =
 
 grouped : {ts : List Tok} → LogicProperty ts → Grouped loosest ts
 grouped (published.comparison c m n) = (_, looser loosest (a_comparison {d = false} {c = c} (measure_tree m).1 (measure_tree n).1))
-grouped (published.change_comparison_lem c m n) = (_, looser loosest (a_comparison {d = true} {c = c} (measure_tree m).1 (measure_tree n).1))
+grouped (published.change_comparison c m n) = (_, looser loosest (a_comparison {d = true} {c = c} (measure_tree m).1 (measure_tree n).1))
 grouped (published.negation p) = prefix_left negation tt (grouped p).1
 grouped (published.conjunction p q) = join and (grouped p).1 (grouped q).1
 grouped (published.disjunction p q) = join or (grouped p).1 (grouped q).1

@@ -1,7 +1,7 @@
 -- What is read is the tree of the text.
 use Rattle.std.proofs.Common.{◌≡◌, ℕ, Bool, true, false, cond, List, [], ◌∷◌, ◌++◌, sym, refl, ap, ◌∙◌, subst, append-nil}
 use lib.Dec.{leb-zero}
-use Rattle.std.specs.List.{AllByRecursion as All}
+use Rattle.std.specs.List.{AllByRecursion}
 use Rattle.tokens.specs.Tokens.{Tok, Spot, stop, is_stop}
 use Rattle.grammar.specs.Laws.{toks, ended, steps, Reads, IsToken}
 use Rattle.grammar.specs.Layers.{PropertyText, loosest}
@@ -13,7 +13,7 @@ use Rattle.grammar.proofs.Outcomes.{cannot, Right, reads, refuses, then_right}
 use Rattle.grammar.proofs.PropertyReaders.{AProperty, properties, formula_fine}
 use Rattle.grammar.proofs.Spelling.{Spelled, step_tokens, consumed, consumed_then, consumed_tokens}
 use Rattle.grammar.proofs.Spelling as spelling
-use Rattle.grammar.proofs.TextTokens.{Tokens, none, more, property_tokens, property_has_tokens}
+use Rattle.grammar.proofs.TextTokens.{Tokens, more, property_tokens, property_has_tokens}
 use Rattle.grammar.proofs.TokenKinds.{stop_is}
 
 pub reading_right : (rules : Rules) (s : List Spot) → Right rules (properties rules 0 loosest) 0 s (reading rules s)
@@ -37,7 +37,7 @@ reading_ends rules s p n t e = by (formula rules rules.nesting 0 s) e
     by (fault number place u) k = cc
 
 -- what stands before the end of the text is the whole text
-all_read : (us ts s : List Spot) (end : ℕ) → us ++ s ≡ ended ts end → (first s).tok ≡ stop → All (λ t. IsToken t.tok) ts → Tokens (toks us) → us ≡ ts
+all_read : (us ts s : List Spot) (end : ℕ) → us ++ s ≡ ended ts end → (first s).tok ≡ stop → AllByRecursion (λ t. IsToken t.tok) ts → Tokens (toks us) → us ≡ ts
 all_read [] [] s end e f h k = refl
 all_read [] (t ∷ ts) s end e f h k = absurd (h.0 (ap (λ (v : List Spot). (first v).tok) (sym e) ∙ f))
 all_read (u ∷ us) [] s end e f h (more i k) = absurd (i (ap (λ (v : List Spot). (first v).tok) e))
@@ -47,7 +47,7 @@ all_read (u ∷ us) (t ∷ ts) s end e f h (more i k) =
     let same = all_read us ts s end there f h.1 k in
     cc
 
-pub sound_reading : (rules : Rules) (ts : List Spot) (end : ℕ) → All (λ t. IsToken t.tok) ts → (p : PropertyTree) (n : ℕ) (s : List Spot) → reading rules (ended ts end) ≡ got p n s → Reads rules (toks ts) p
+pub sound_reading : (rules : Rules) (ts : List Spot) (end : ℕ) → AllByRecursion (λ t. IsToken t.tok) ts → (p : PropertyTree) (n : ℕ) (s : List Spot) → reading rules (ended ts end) ≡ got p n s → Reads rules (toks ts) p
 sound_reading rules ts end all p n s e = by (subst (λ (o : Outcome PropertyTree). Right rules (properties rules 0 loosest) 0 (ended ts end) o) e (reading_right rules (ended ts end)))
   where
     by : Right rules (properties rules 0 loosest) 0 (ended ts end) (got p n s) → Reads rules (toks ts) p

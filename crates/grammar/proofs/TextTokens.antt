@@ -17,19 +17,19 @@ joined_tokens xs ys e f = map-append (λ (x : Step). x.tok) xs ys ∙ ap₂ (λ 
 after_token : {ts us : List Tok} (t : Tok) → ts ≡ us → t ∷ ts ≡ t ∷ us
 after_token t e = ap {B = List Tok} (λ ts. t ∷ ts) e
 
-lead_tokens_lem : (rules : Rules) (d : ℕ) (l : Lead) → step_tokens (lead_steps rules d l) ≡ lead_tokens l
-lead_tokens_lem rules d negation = refl
-lead_tokens_lem rules d next = refl
-lead_tokens_lem rules d (skipping s k) = refl
-lead_tokens_lem rules d (eventually a b) = refl
-lead_tokens_lem rules d (always a b) = refl
+tokens_of_lead : (rules : Rules) (d : ℕ) (l : Lead) → step_tokens (lead_steps rules d l) ≡ lead_tokens l
+tokens_of_lead rules d negation = refl
+tokens_of_lead rules d next = refl
+tokens_of_lead rules d (skipping s k) = refl
+tokens_of_lead rules d (eventually a b) = refl
+tokens_of_lead rules d (always a b) = refl
 
-link_tokens_lem : (rules : Rules) (l : Link) → step_tokens (link_steps rules l) ≡ link_tokens l
-link_tokens_lem rules and = refl
-link_tokens_lem rules or = refl
-link_tokens_lem rules implies = refl
-link_tokens_lem rules iff = refl
-link_tokens_lem rules (until a b) = refl
+tokens_of_link : (rules : Rules) (l : Link) → step_tokens (link_steps rules l) ≡ link_tokens l
+tokens_of_link rules and = refl
+tokens_of_link rules or = refl
+tokens_of_link rules implies = refl
+tokens_of_link rules iff = refl
+tokens_of_link rules (until a b) = refl
 
 measure_tokens : {inside : Bool} {ts : List Tok} {m : MeasureTree} (rules : Rules) (d : ℕ) → MeasureText inside ts m → step_tokens (measure_steps rules d m) ≡ ts
 measure_tokens rules d a_numeral = refl
@@ -48,10 +48,10 @@ left_tokens rules d true m t = after_token change (after_token (mark Open) (join
 
 pub property_tokens : {level : ℕ} {ts : List Tok} {p : PropertyTree} (rules : Rules) (d : ℕ) → PropertyText level ts p → step_tokens (property_steps rules d p) ≡ ts
 property_tokens rules d (a_comparison {d = changes} {c} {m} {n} t u) = joined_tokens (left_steps rules d changes m) (bringing (comparator c) ∷ measure_steps rules d n) (left_tokens rules d changes m t) (after_token (comparator c) (measure_tokens rules d u))
-property_tokens rules d (a_prefix {l} {p} h t) = joined_tokens (lead_steps rules (suc d) l) (property_steps rules (suc d) p) (lead_tokens_lem rules (suc d) l) (property_tokens rules (suc d) t)
+property_tokens rules d (a_prefix {l} {p} h t) = joined_tokens (lead_steps rules (suc d) l) (property_steps rules (suc d) p) (tokens_of_lead rules (suc d) l) (property_tokens rules (suc d) t)
 property_tokens rules d (a_bracket {p} t) = after_token (mark Open) (joined_tokens (property_steps rules (suc d) p) _ (property_tokens rules (suc d) t) refl)
 property_tokens rules d (tighter t) = property_tokens rules d t
-property_tokens rules d (a_link {l} {p} {q} e t u) = joined_tokens (property_steps rules d p) (link_steps rules l ++ property_steps rules d q) (property_tokens rules d t) (joined_tokens (link_steps rules l) (property_steps rules d q) (link_tokens_lem rules l) (property_tokens rules d u))
+property_tokens rules d (a_link {l} {p} {q} e t u) = joined_tokens (property_steps rules d p) (link_steps rules l ++ property_steps rules d q) (property_tokens rules d t) (joined_tokens (link_steps rules l) (property_steps rules d q) (tokens_of_link rules l) (property_tokens rules d u))
 
 token_is : (t : Tok) → is_stop t ≡ false → IsToken t
 token_is t f e = let z : false ≡ true = sym f ∙ ap is_stop e in let y : ◌≡◌ {A = ℕ} 0 1 = cc in omega arith

@@ -37,7 +37,7 @@ pub data TemporalMeasure : List Tok → Type 0 where
 -- logic-property
 pub data LogicProperty : List Tok → Type 0 where
   comparison : {ms ns : List Tok} (c : Comparator) → TemporalMeasure ms → TemporalMeasure ns → LogicProperty (ms ++ (comparator c ∷ ns))
-  change_comparison_lem : {ms ns : List Tok} (c : Comparator) → TemporalMeasure ms → TemporalMeasure ns → LogicProperty ((change ∷ bracket_tokens ms) ++ (comparator c ∷ ns))
+  change_comparison : {ms ns : List Tok} (c : Comparator) → TemporalMeasure ms → TemporalMeasure ns → LogicProperty ((change ∷ bracket_tokens ms) ++ (comparator c ∷ ns))
   negation : {ps : List Tok} → LogicProperty ps → LogicProperty (prefix prefixes.Not ∷ ps)
   conjunction : {ps qs : List Tok} → LogicProperty ps → LogicProperty qs → LogicProperty (ps ++ (connective connectives.And ∷ qs))
   disjunction : {ps qs : List Tok} → LogicProperty ps → LogicProperty qs → LogicProperty (ps ++ (connective connectives.Or ∷ qs))

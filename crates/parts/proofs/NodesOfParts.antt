@@ -51,15 +51,15 @@ mapped_some : {X Y : Type 0} {f : X → Y} (o : Option X) {y : Y} → option_map
 mapped_some None e = let z : ◌≡◌ {A = ℕ} 0 1 = cc in absurd (omega arith)
 mapped_some (Some x) e = (x, refl, cc)
 
-as_measure_lem : (o : Option Node) {m : Measure} → as_measure o ≡ Some m → o ≡ Some (measure m)
-as_measure_lem None e = cc
-as_measure_lem (Some (measure m)) e = cc
-as_measure_lem (Some (property p)) e = cc
+as_measure_some : (o : Option Node) {m : Measure} → as_measure o ≡ Some m → o ≡ Some (measure m)
+as_measure_some None e = cc
+as_measure_some (Some (measure m)) e = cc
+as_measure_some (Some (property p)) e = cc
 
-pub as_property_lem : (o : Option Node) {p : Property} → as_property o ≡ Some p → o ≡ Some (property p)
-as_property_lem None e = cc
-as_property_lem (Some (measure m)) e = cc
-as_property_lem (Some (property p)) e = cc
+pub as_property_some : (o : Option Node) {p : Property} → as_property o ≡ Some p → o ≡ Some (property p)
+as_property_some None e = cc
+as_property_some (Some (measure m)) e = cc
+as_property_some (Some (property p)) e = cc
 
 both_some : {X Y : Type 0} (t : Bool) (a : Option X) (b : Option Y) {o : X × Y} → cond t (option_zip a b) None ≡ Some o → (t ≡ true) × (a ≡ Some o.0) × (b ≡ Some o.1)
 both_some false a b e = (cc, cc, cc)
@@ -87,31 +87,31 @@ module _ (ns more : List Node) (x : Node) where
   measures_here : (left : ℕ) (o : Measure × Measure) → measures_at ns left ≡ Some o → TwoOperands (ns ++ (x ∷ more)) (length ns) left (measure o.0) (measure o.1) x
   measures_here left o e =
       let b = both_some (adjoins ns left) (as_measure (slice_get ns left)) (as_measure (last_node ns)) e in
-      two_here left (measure o.0) (measure o.1) b.0 (as_measure_lem (slice_get ns left) b.1) (as_measure_lem (last_node ns) b.2)
+      two_here left (measure o.0) (measure o.1) b.0 (as_measure_some (slice_get ns left) b.1) (as_measure_some (last_node ns) b.2)
 
   properties_here : (left : ℕ) (o : Property × Property) → properties_at ns left ≡ Some o → TwoOperands (ns ++ (x ∷ more)) (length ns) left (property o.0) (property o.1) x
   properties_here left o e =
       let b = both_some (adjoins ns left) (as_property (slice_get ns left)) (as_property (last_node ns)) e in
-      two_here left (property o.0) (property o.1) b.0 (as_property_lem (slice_get ns left) b.1) (as_property_lem (last_node ns) b.2)
+      two_here left (property o.0) (property o.1) b.0 (as_property_some (slice_get ns left) b.1) (as_property_some (last_node ns) b.2)
 
   meant_here : (part : Part) → node ns part ≡ Some x → Meant (ns ++ (x ∷ more)) (length ns) part
   meant_here (Numeral n) e = nth_at ns more x ∙ sym e
   meant_here (Variable v) e = nth_at ns more x ∙ sym e
   meant_here (Unary u) e =
       let o = mapped_some (as_measure (last_node ns)) e in
-      (o.0, rw (← o.2) (one_here (measure o.0) (as_measure_lem (last_node ns) o.1)))
+      (o.0, rw (← o.2) (one_here (measure o.0) (as_measure_some (last_node ns) o.1)))
   meant_here (Binary b left) e =
       let o = mapped_some (measures_at ns left) e in
       (o.0.0, o.0.1, rw (← o.2) (measures_here left o.0 o.1))
   meant_here (Over s w) e =
       let o = mapped_some (as_measure (last_node ns)) e in
-      (o.0, rw (← o.2) (one_here (measure o.0) (as_measure_lem (last_node ns) o.1)))
+      (o.0, rw (← o.2) (one_here (measure o.0) (as_measure_some (last_node ns) o.1)))
   meant_here (Compare c d left) e =
       let o = mapped_some (measures_at ns left) e in
       (o.0.0, o.0.1, rw (← o.2) (measures_here left o.0 o.1))
   meant_here (Prefix y) e =
       let o = mapped_some (as_property (last_node ns)) e in
-      (o.0, rw (← o.2) (one_here (property o.0) (as_property_lem (last_node ns) o.1)))
+      (o.0, rw (← o.2) (one_here (property o.0) (as_property_some (last_node ns) o.1)))
   meant_here (Connective c left) e =
       let o = mapped_some (properties_at ns left) e in
       (o.0.0, o.0.1, rw (← o.2) (properties_here left o.0 o.1))

@@ -83,7 +83,7 @@ module _ (ns : List Node) (y z : Node) where
 
 -- parts that stand for these nodes, the first of them at this index
 record Yields (start : ℕ) (ps : List Part) (xs : List Node) : Type 0 where
-  pub nodes_behind_lem : (ns : List Node) (rest : List Part) → length ns ≡ start → nodes_behind ns (ps ++ rest) ≡ nodes_behind (ns ++ xs) rest
+  pub nodes_behind_parts : (ns : List Node) (rest : List Part) → length ns ≡ start → nodes_behind ns (ps ++ rest) ≡ nodes_behind (ns ++ xs) rest
 
 one_behind : (ns : List Node) (p : Part) (ps : List Part) (x : Node) → node ns p ≡ Some x → nodes_behind ns (p ∷ ps) ≡ nodes_behind (ns ++ (x ∷ [])) ps
 one_behind ns p ps x e = rw (e, nodes_behind)
@@ -91,13 +91,13 @@ one_behind ns p ps x e = rw (e, nodes_behind)
 part_yields : {start : ℕ} {ps : List Part} {xs : List Node} (part : Part) (x : Node) → Yields start ps xs → ((ns : List Node) → length ns ≡ start → node (ns ++ xs) part ≡ Some x) → Yields start (ps ++ (part ∷ [])) (xs ++ (x ∷ []))
 part_yields {ps = ps} {xs = xs} part x before here =
     record {
-      nodes_behind_lem = λ ns rest e. rw (append_assoc ps (part ∷ []) rest, before.nodes_behind_lem ns (part ∷ rest) e, one_behind (ns ++ xs) part rest x (here ns e), append_assoc ns xs (x ∷ []));
+      nodes_behind_parts = λ ns rest e. rw (append_assoc ps (part ∷ []) rest, before.nodes_behind_parts ns (part ∷ rest) e, one_behind (ns ++ xs) part rest x (here ns e), append_assoc ns xs (x ∷ []));
     }
 
 both_yield : {start k : ℕ} {ps qs : List Part} {xs ys : List Node} → length xs ≡ k → Yields start ps xs → Yields (start + k) qs ys → Yields start (ps ++ qs) (xs ++ ys)
 both_yield {ps = ps} {qs = qs} {xs = xs} {ys = ys} many left right =
     record {
-      nodes_behind_lem = λ ns rest e. rw (append_assoc ps qs rest, left.nodes_behind_lem ns (qs ++ rest) e, right.nodes_behind_lem (ns ++ xs) rest (length-append ns xs ∙ (cc)), append_assoc ns xs ys);
+      nodes_behind_parts = λ ns rest e. rw (append_assoc ps qs rest, left.nodes_behind_parts ns (qs ++ rest) e, right.nodes_behind_parts (ns ++ xs) rest (length-append ns xs ∙ (cc)), append_assoc ns xs ys);
     }
 
 -- the node of a part whose operands stand one behind the other
@@ -109,8 +109,8 @@ module _ {start : ℕ} (ns : List Node) (e : length ns ≡ start) where
   of_properties c p q = rw (← e, adjoin ns (property p) (property q), left_is ns (property p) (property q), right_is ns (property p) (property q))
 
 measure_yields : (m : Measure) (start : ℕ) → Yields start (measure_parts start m) (measure_nodes m)
-measure_yields (numeral n) start = record { nodes_behind_lem = λ ns rest e. refl }
-measure_yields (variable v) start = record { nodes_behind_lem = λ ns rest e. refl }
+measure_yields (numeral n) start = record { nodes_behind_parts = λ ns rest e. refl }
+measure_yields (variable v) start = record { nodes_behind_parts = λ ns rest e. refl }
 measure_yields (unary u m) start = part_yields (part.Unary u) _ (measure_yields m start) (λ ns e. rw (last_is ns (measure m)))
 measure_yields (binary b m n) start =
     part_yields (part.Binary b (start + measure_size m - 1)) _
@@ -130,7 +130,7 @@ property_yields (joined c p q) start =
     (λ ns e. of_properties ns e c p q)
 
 pub nodes_parts_of : (p : Property) → nodes (parts_of p) ≡ Some (property_nodes p)
-nodes_parts_of p = ap nodes (sym (append-nil (parts_of p))) ∙ (property_yields p 0).nodes_behind_lem [] [] refl
+nodes_parts_of p = ap nodes (sym (append-nil (parts_of p))) ∙ (property_yields p 0).nodes_behind_parts [] [] refl
 
 pub tree_of_parts_of : (p : Property) → tree_of (parts_of p) ≡ Some p
 tree_of_parts_of p = rw (nodes_parts_of p, last_is [] (property p), length_property_nodes p, eq-eqb (property_size p) (property_size p) refl)

@@ -8,7 +8,7 @@ use Rattle.parts.specs.Formulas.{Measure, numeral, variable, unary, binary, over
 use Rattle.parts.specs.Order.{measure_size, property_size, measure_parts, property_parts, parts_of, Node, measure, property, node_size, as_property, last_node, size_of, nodes, root_of, tree_of}
 use Rattle.parts.specs.declared.kinds.Part.{Part}
 use Rattle.parts.specs.declared.kinds.Part.TheVariants.{Numeral, Variable, Unary, Binary, Over, Compare, Prefix, Connective}
-use Rattle.parts.proofs.NodesOfParts.{OneOperand, TwoOperands, Meant, as_many_nodes, as_property_lem, meant, nth_within}
+use Rattle.parts.proofs.NodesOfParts.{OneOperand, TwoOperands, Meant, as_many_nodes, as_property_some, meant, nth_within}
 
 length_measure_parts : (m : Measure) (start : ℕ) → length (measure_parts start m) ≡ measure_size m
 length_measure_parts (numeral n) start = refl
@@ -111,7 +111,7 @@ root_node ps p e =
     let r = flattened_some {f = root_of} (nodes ps) e in
     let ns = r.0 in
     let h = if_some (eqb (size_of (last_node ns)) (length ns)) (as_property (last_node ns)) r.2 in
-    let last = as_property_lem (last_node ns) h.1 in
+    let last = as_property_some (last_node ns) h.1 in
     (ns, r.1, last, sym (ap size_of last) ∙ eqb-true (size_of (last_node ns)) (length ns) h.0)
 
 pub parts_of_tree_of : (ps : List Part) (p : Property) → tree_of ps ≡ Some p → ps ≡ parts_of p
