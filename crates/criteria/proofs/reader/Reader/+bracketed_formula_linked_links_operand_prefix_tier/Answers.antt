@@ -109,7 +109,7 @@ operand-returns-in-Prefix t c = record {
 
 pub operand-returns-in-Change : goal.operand-returns-in-Change
 operand-returns-in-Change t c = record {
-  answer = operand_by c.args.scope.now c.args.left (change_comparison_way c.args.scope.now c.args.left).read (view c.args.self.now) c.change_comparison.result (view c.change_comparison_lem.new.self) tok.change c.in-Change.ensures refl c.change_comparison_lem.ensures.answer;
+  answer = operand_by c.args.scope.now c.args.left (change_comparison_way c.args.scope.now c.args.left).read (view c.args.self.now) c.change_comparison.result (view c.change_comparison.new.self) tok.change c.in-Change.ensures refl c.change_comparison.ensures.answer;
   balance = c.change_comparison.ensures.balance;
 }
 
