@@ -1,7 +1,7 @@
 -- What the bytes of a criterion are, read for the header of a run file and a magnitude: a formula, or the first fault. Assumes nothing.
 use Rattle.std.specs.Prelude.{◌≡◌, ℕ, Bool, cond, ◌&&◌, List, length, ℤ, pos, negsuc, Some, None, Ok, Err, Option, Result, nat_le}
 use Rattle.std.specs.Int.{is_in_range}
-use Rattle.std.specs.List.{AllByRecursion as All}
+use Rattle.std.specs.List.{AllByRecursion}
 use Rattle.records.specs.Cursor.{start}
 use Rattle.records.specs.Headers.{column_from, names_at}
 use Rattle.records.specs.declared.fault.RecordFault.{RecordFault}
@@ -66,5 +66,5 @@ after (Err e) before = before
 pub record ReadExactly (text : List ℕ) (columns : Columns) (largest : ℕ) : Type 0 where
   pub tokens : List Spot
   pub split : spots text ≡ ended tokens (length text)
-  pub all : All (λ t. IsToken t.tok) tokens
+  pub all : AllByRecursion (λ t. IsToken t.tok) tokens
   pub exact : Exact (rules_for columns largest) tokens (length text)

@@ -1,5 +1,5 @@
 // The fields of a file, one after the other.
-use super::expect::{at, same_place};
+use super::expect::at;
 use records::{Field, Fields, Next, Position};
 use std::process::Abort;
 use std::test::Fail;
@@ -29,12 +29,18 @@ fn same_next(a: Next, b: Next) -> bool {
     )
 }
 
-fn is_field(rt: &impl Abort, field: &Field, expected: &Field) -> Result<(), Fail> {
-    assert_eq!(rt; field.text, expected.text);
-    assert_eq!(rt; field.quoted, expected.quoted, "whether it has quotes");
-    same_place(rt, field.at, expected.at)?;
-    assert!(rt; same_next(field.next, expected.next), "what follows it");
-    Ok(())
+fn is_field(rt: &impl Abort, i: usize, field: &Field, expected: &Field) {
+    assert_eq!(rt; field.text, expected.text, "field {i}");
+    assert_eq!(rt;
+        field.quoted,
+        expected.quoted,
+        "whether field {i} has quotes"
+    );
+    assert_eq!(rt; field.at, expected.at, "field {i}");
+    assert!(rt;
+        same_next(field.next, expected.next),
+        "what follows field {i}"
+    );
 }
 
 // The file's fields are these, and then it has ended, also at a second call.
@@ -42,7 +48,7 @@ fn yields(rt: &impl Abort, file: &[u8], expected: &[Field]) -> Result<(), Fail> 
     let mut fields = Fields::over(file);
     for (i, next) in expected.iter().enumerate() {
         match fields.next_field() {
-            Ok(Some(field)) => is_field(rt, &field, next).note(format_args!("field {i}"))?,
+            Ok(Some(field)) => is_field(rt, i, &field, next),
             Ok(None) => return Err(Fail::new(format_args!("no field {i}"))),
             Err(_) => return Err(Fail::new(format_args!("field {i} is refused"))),
         }
@@ -110,7 +116,7 @@ fn text_data(rt: HostRuntime) -> Result<(), Fail> {
 
 // The bytes outside these ranges, also between quotes.
 #[test]
-fn no_text_data(rt: HostRuntime) -> Result<(), Fail> {
+fn no_text_data(rt: HostRuntime) {
     let cases: [&[u8]; 12] = [
         b"a,\x1F",
         b"a,\x7F",
@@ -126,23 +132,22 @@ fn no_text_data(rt: HostRuntime) -> Result<(), Fail> {
         b"a,\"\xFF\"",
     ];
     for (i, file) in cases.iter().enumerate() {
-        second_refused(&rt, file, at(0, 1, 2)).note(format_args!("case {i}"))?;
+        second_refused(&rt, i, file, at(0, 1, 2));
     }
-    second_refused(&rt, b"a\r\nb\"", at(1, 0, 3))
+    second_refused(&rt, cases.len(), b"a\r\nb\"", at(1, 0, 3));
 }
 
 // The first field is read, and the second is refused, and again at a second call.
-fn second_refused(rt: &impl Abort, file: &[u8], place: Position) -> Result<(), Fail> {
+fn second_refused(rt: &impl Abort, case: usize, file: &[u8], place: Position) {
     let mut fields = Fields::over(file);
     assert!(rt;
         matches!(fields.next_field(), Ok(Some(_))),
-        "the first field"
+        "case {case}: the first field"
     );
     for _ in 0..2 {
         match fields.next_field() {
-            Ok(_) => return Err(Fail::new("the field is not refused")),
-            Err(fault) => same_place(rt, fault.at, place)?,
+            Ok(_) => assert!(rt; false, "case {case}: the field is not refused"),
+            Err(fault) => assert_eq!(rt; fault.at, place, "case {case}"),
         }
     }
-    Ok(())
 }

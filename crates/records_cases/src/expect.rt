@@ -1,5 +1,5 @@
 // Readings that a test expects to be answered, or to be refused.
-use records::{Fields, Header, Position, Record, RecordFault};
+use records::{Fields, Header, Position, Record, RecordFault, Refusal};
 use std::process::Abort;
 use std::test::Fail;
 
@@ -14,16 +14,9 @@ pub fn same_place(rt: &impl Abort, place: Position, expected: Position) -> Resul
     Ok(())
 }
 
-pub fn refused_as(
-    rt: &impl Abort,
-    fault: RecordFault,
-    number: u8,
-    place: usize,
-) -> Result<(), Fail> {
-    let refusal = fault.refusal();
-    assert_eq!(rt; refusal.number, number, "the number of the refusal");
-    assert_eq!(rt; refusal.place, place, "its place");
-    Ok(())
+// `case` says which of several like examples it is, where one fails.
+pub fn refused_as(rt: &impl Abort, case: usize, fault: RecordFault, number: u8, place: usize) {
+    assert_eq!(rt; fault.refusal(), Refusal { number, place }, "case {case}");
 }
 
 fn unexpected(fault: RecordFault) -> Fail {
@@ -49,69 +42,65 @@ pub fn record_of(fields: &mut Fields) -> Result<Record, Fail> {
 }
 
 // The file has ended, and has still ended at a second call.
-pub fn ended(fields: &mut Fields) -> Result<(), Fail> {
+pub fn ended(rt: &impl Abort, case: usize, fields: &mut Fields) {
     for _ in 0..2 {
-        match fields.next_record() {
-            Ok(None) => {}
-            Ok(Some(_)) => return Err(Fail::new("there is another record")),
-            Err(fault) => return Err(unexpected(fault)),
-        }
+        assert_eq!(rt; has_more(fields), Ok(false), "case {case}");
     }
-    Ok(())
+}
+
+fn has_more(fields: &mut Fields) -> Result<bool, Refusal> {
+    match fields.next_record() {
+        Ok(record) => Ok(record.is_some()),
+        Err(fault) => Err(fault.refusal()),
+    }
 }
 
 // The header is refused so, and again at a second call, since a refusal leaves the reader where it is.
-pub fn header_refused(rt: &impl Abort, file: &[u8], number: u8, place: usize) -> Result<(), Fail> {
+pub fn header_refused(rt: &impl Abort, case: usize, file: &[u8], number: u8, place: usize) {
     let mut fields = Fields::over(file);
     for _ in 0..2 {
         match fields.header() {
-            Ok(_) => return Err(Fail::new("the header is not refused")),
-            Err(fault) => refused_as(rt, fault, number, place)?,
+            Ok(_) => assert!(rt; false, "case {case}: the header is not refused"),
+            Err(fault) => refused_as(rt, case, fault, number, place),
         }
     }
-    Ok(())
 }
 
 // The header of each file is refused with this number, at the place beside it.
-pub fn headers_refused(rt: &impl Abort, number: u8, cases: &[(&[u8], usize)]) -> Result<(), Fail> {
+pub fn headers_refused(rt: &impl Abort, number: u8, cases: &[(&[u8], usize)]) {
     for (i, (file, place)) in cases.iter().enumerate() {
-        header_refused(rt, file, number, *place).note(format_args!("case {i}"))?;
+        header_refused(rt, i, file, number, *place);
     }
-    Ok(())
 }
 
 // The first refusal behind the header of each file has this number, and the place beside it, which also says in which record it is.
-pub fn records_refused(rt: &impl Abort, number: u8, cases: &[(&[u8], usize)]) -> Result<(), Fail> {
+pub fn records_refused(rt: &impl Abort, number: u8, cases: &[(&[u8], usize)]) {
     for (i, (file, place)) in cases.iter().enumerate() {
-        record_refused(rt, file, number, *place).note(format_args!("case {i}"))?;
+        record_refused(rt, i, file, number, *place);
     }
-    Ok(())
 }
 
-fn record_refused(rt: &impl Abort, file: &[u8], number: u8, place: usize) -> Result<(), Fail> {
+fn record_refused(rt: &impl Abort, case: usize, file: &[u8], number: u8, place: usize) {
     let mut fields = Fields::over(file);
-    let _ = header_of(&mut fields)?;
+    assert!(rt;
+        fields.header().is_ok(),
+        "case {case}: the header is refused"
+    );
     for _ in 0..file.len() {
         match fields.next_record() {
-            Ok(Some(_)) => {}
-            Ok(None) => return Err(Fail::new("no record is refused")),
+            Ok(record) => assert!(rt; record.is_some(), "case {case}: no record is refused"),
             Err(fault) => {
-                refused_as(rt, fault, number, place)?;
-                return refused_again(rt, &mut fields, number, place);
+                refused_as(rt, case, fault, number, place);
+                return refused_again(rt, case, &mut fields, number, place);
             }
         }
     }
-    Err(Fail::new("no record is refused"))
+    assert!(rt; false, "case {case}: no record is refused");
 }
 
-fn refused_again(
-    rt: &impl Abort,
-    fields: &mut Fields,
-    number: u8,
-    place: usize,
-) -> Result<(), Fail> {
+fn refused_again(rt: &impl Abort, case: usize, fields: &mut Fields, number: u8, place: usize) {
     match fields.next_record() {
-        Ok(_) => Err(Fail::new("the record is not refused again")),
-        Err(fault) => refused_as(rt, fault, number, place),
+        Ok(_) => assert!(rt; false, "case {case}: the record is not refused again"),
+        Err(fault) => refused_as(rt, case, fault, number, place),
     }
 }

@@ -34,7 +34,7 @@ fn read_to_the_end(rt: HostRuntime) -> Result<(), Fail> {
         assert_eq!(rt; header_of(&mut fields)?.width(), 2, "case {i}");
         three(&rt, &record_of(&mut fields)?, 1, 17, [1, -2, 3])?;
         three(&rt, &record_of(&mut fields)?, 2, 25, [4, 5, 6])?;
-        ended(&mut fields).note(format_args!("case {i}"))?;
+        ended(&rt, i, &mut fields);
     }
     Ok(())
 }
@@ -45,7 +45,7 @@ fn a_header_alone(rt: HostRuntime) -> Result<(), Fail> {
     for (i, file) in cases.iter().enumerate() {
         let mut fields = Fields::over(file);
         assert_eq!(rt; header_of(&mut fields)?.width(), 1, "case {i}");
-        ended(&mut fields).note(format_args!("case {i}"))?;
+        ended(&rt, i, &mut fields);
     }
     Ok(())
 }
@@ -69,7 +69,8 @@ fn longest_file(rt: HostRuntime) -> Result<(), Fail> {
     let record = record_of(&mut fields)?;
     assert_eq!(rt; record.count(), 1);
     assert_eq!(rt; record.number(0), Some(0));
-    ended(&mut fields)
+    ended(&rt, 0, &mut fields);
+    Ok(())
 }
 
 // One byte more is refused as 1 at 0, before the grammar is looked at.
@@ -77,9 +78,10 @@ fn longest_file(rt: HostRuntime) -> Result<(), Fail> {
 fn too_long(rt: HostRuntime) -> Result<(), Fail> {
     let file = filled(rt.alloc(), b"stay,a\r\n", b'0', 65_537)?;
     assert_eq!(rt; file.len(), 65_537);
-    header_refused(&rt, file.as_slice(), 1, 0)?;
+    header_refused(&rt, 0, file.as_slice(), 1, 0);
     let garbled = filled(rt.alloc(), b"stay,", b'\xFF', 65_537)?;
-    header_refused(&rt, garbled.as_slice(), 1, 0)?;
+    header_refused(&rt, 1, garbled.as_slice(), 1, 0);
     let longest = filled(rt.alloc(), b"stay,", b'\xFF', 65_536)?;
-    header_refused(&rt, longest.as_slice(), 8, 5)
+    header_refused(&rt, 2, longest.as_slice(), 8, 5);
+    Ok(())
 }

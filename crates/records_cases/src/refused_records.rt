@@ -6,7 +6,7 @@ use std::test::Fail;
 
 // A field that breaks RFC 4180 is refused as 8.
 #[test]
-fn outside_the_grammar(rt: HostRuntime) -> Result<(), Fail> {
+fn outside_the_grammar(rt: HostRuntime) {
     records_refused(
         &rt,
         8,
@@ -26,12 +26,12 @@ fn outside_the_grammar(rt: HostRuntime) -> Result<(), Fail> {
             (b"stay,a\r\n1,\"2\x00\"", 10),
             (b"stay,a\r\n\xFF,2", 8),
         ],
-    )
+    );
 }
 
 // So is a field that is no whole numeral.
 #[test]
-fn no_numeral(rt: HostRuntime) -> Result<(), Fail> {
+fn no_numeral(rt: HostRuntime) {
     records_refused(
         &rt,
         8,
@@ -55,12 +55,12 @@ fn no_numeral(rt: HostRuntime) -> Result<(), Fail> {
             (b"stay,a\r\n1,\"2\"\"\"", 10),
             (b"stay,a\r\n\"\"\"1\",2", 8),
         ],
-    )
+    );
 }
 
 // An empty line is a record of one empty field, unless it is the end of the file.
 #[test]
-fn empty_lines(rt: HostRuntime) -> Result<(), Fail> {
+fn empty_lines(rt: HostRuntime) {
     records_refused(
         &rt,
         8,
@@ -70,12 +70,12 @@ fn empty_lines(rt: HostRuntime) -> Result<(), Fail> {
             (b"stay,a\r\n1,2\r\n\r\n", 13),
             (b"stay,a\r\n1,2\r\n\r\n3,4", 13),
         ],
-    )
+    );
 }
 
 // Beyond 10^9 a number is refused as 3, the leftmost first, also past the seventeenth field.
 #[test]
-fn beyond_the_limit(rt: HostRuntime) -> Result<(), Fail> {
+fn beyond_the_limit(rt: HostRuntime) {
     records_refused(
         &rt,
         3,
@@ -103,12 +103,12 @@ fn beyond_the_limit(rt: HostRuntime) -> Result<(), Fail> {
                 40,
             ),
         ],
-    )
+    );
 }
 
 // Each 8 of a record comes before each 3, and the leftmost 8 first.
 #[test]
-fn grammar_and_numerals_before_the_limit(rt: HostRuntime) -> Result<(), Fail> {
+fn grammar_and_numerals_before_the_limit(rt: HostRuntime) {
     records_refused(
         &rt,
         8,
@@ -124,12 +124,12 @@ fn grammar_and_numerals_before_the_limit(rt: HostRuntime) -> Result<(), Fail> {
                 51,
             ),
         ],
-    )
+    );
 }
 
 // The records are refused in turn: one that may stand is read, and what comes behind a faulty one does not count.
 #[test]
-fn one_record_after_the_other(rt: HostRuntime) -> Result<(), Fail> {
+fn one_record_after_the_other(rt: HostRuntime) {
     records_refused(
         &rt,
         8,
@@ -140,7 +140,7 @@ fn one_record_after_the_other(rt: HostRuntime) -> Result<(), Fail> {
             (b"stay,a\r\n1,2,3\r\n4\r\nx", 18),
             (b"stay,a\r\n1,x\r\n3,1000000001", 10),
         ],
-    )?;
+    );
     records_refused(
         &rt,
         3,
@@ -148,18 +148,19 @@ fn one_record_after_the_other(rt: HostRuntime) -> Result<(), Fail> {
             (b"stay,a\r\n1,2\r\n3,1000000001\r\n", 15),
             (b"stay,a\r\n1,1000000001\r\nx", 10),
         ],
-    )
+    );
 }
 
 // The record behind the header has another number of fields than the header: 9, at the record.
-fn too_wide_or_narrow(rt: &impl Abort, file: &[u8]) -> Result<(), Fail> {
+fn too_wide_or_narrow(rt: &impl Abort, case: usize, file: &[u8]) -> Result<(), Fail> {
     let mut fields = Fields::over(file);
     let header = header_of(&mut fields)?;
     let record = record_of(&mut fields)?;
     match record.check_width(header.width()) {
-        Ok(()) => Err(Fail::new("the width is not refused")),
-        Err(fault) => refused_as(rt, fault, 9, 8),
+        Ok(()) => assert!(rt; false, "case {case}: the width is not refused"),
+        Err(fault) => refused_as(rt, case, fault, 9, 8),
     }
+    Ok(())
 }
 
 #[test]
@@ -173,7 +174,7 @@ fn another_width_than_the_header(rt: HostRuntime) -> Result<(), Fail> {
         b"stay,a\r\n0,0,0,0,0,0,0,0,0,0,0,0,0,0,0,0,0,0",
     ];
     for (i, file) in cases.iter().enumerate() {
-        too_wide_or_narrow(&rt, file).note(format_args!("case {i}"))?;
+        too_wide_or_narrow(&rt, i, file)?;
     }
     Ok(())
 }

@@ -1,7 +1,7 @@
 -- What the recorders with cells of their own share: which cells are free, what a state needs, and why their meaning is sound. Assumes nothing.
 use Rattle.std.specs.Prelude.{◌≡◌, ℕ, ◌+◌, ◌-◌, ◌≤◌, Bool, true, cond, ◌&&◌, List, [], ◌∷◌, length, ℤ, is_some, Some, None, Option, ◌==◌, nat_le, unsigned_abs, refl}
 use Rattle.std.specs.Int.{is_in_range}
-use Rattle.std.specs.List.{AllByRecursion as All}
+use Rattle.std.specs.List.{AllByRecursion}
 use Rattle.std.proofs.lemmas.Bool.{and_parts, leb-true, eqb-true}
 use Rattle.runs.specs.Feeding.{Priced, after, all_within, unlawful}
 use Rattle.runs.specs.Runs.{Lawful, Meaning, State}
@@ -43,7 +43,7 @@ needs_priced shape largest lawful some = record {
   some = λ stay values e. rw e (some stay values);
 }
 
-pub magnitudes_lawful : (largest : ℕ) (vs : List ℤ) → all_within largest vs ≡ true → All (λ v. unsigned_abs v ≤ largest) vs
+pub magnitudes_lawful : (largest : ℕ) (vs : List ℤ) → all_within largest vs ≡ true → AllByRecursion (λ v. unsigned_abs v ≤ largest) vs
 magnitudes_lawful largest [] e = tt
 magnitudes_lawful largest (v ∷ vs) e =
     let p = and_parts (nat_le (unsigned_abs v) largest) (all_within largest vs) e in
@@ -60,7 +60,7 @@ state_lawful shape largest s e =
       magnitudes = magnitudes_lawful largest s.values values.1;
     }
 
-pub states_lawful : (shape : Shape) (largest : ℕ) (ss : List State) → are_lawful shape largest ss ≡ true → All (Lawful shape largest) ss
+pub states_lawful : (shape : Shape) (largest : ℕ) (ss : List State) → are_lawful shape largest ss ≡ true → AllByRecursion (Lawful shape largest) ss
 states_lawful shape largest [] e = tt
 states_lawful shape largest (s ∷ ss) e =
     let p = and_parts (is_lawful shape largest s) (are_lawful shape largest ss) e in

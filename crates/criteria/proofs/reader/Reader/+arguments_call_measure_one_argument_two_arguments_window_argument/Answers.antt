@@ -15,28 +15,28 @@ use Rattle.criteria.proofs.reader.Reader.+arguments_call_measure_one_argument_tw
 pub arguments-returns-in-Statistic : goal.arguments-returns-in-Statistic
 arguments-returns-in-Statistic t c = record {
   answer =
-      subst (λ (f : Function). Follows (arguments_way c.args.scope.now f c.args.left c.args.inside) (view c.args.self.now) c.window-argument.result (view c.window-argument.new.self))
-      (sym c.in-Statistic.is) (c.window-argument.ensures.answer c.args.inside);
-  balance = c.window-argument.ensures.balance;
+      subst (λ (f : Function). Follows (arguments_way c.args.scope.now f c.args.left c.args.inside) (view c.args.self.now) c.window_argument.result (view c.window_argument.new.self))
+      (sym c.in-Statistic.is) (c.window_argument.ensures.answer c.args.inside);
+  balance = c.window_argument.ensures.balance;
 }
 
-pub call-returns-in-err-call : goal.call-returns-in-err-call
-call-returns-in-err-call t c =
-    let exit = err_from_is_err_and c.from-residual-in-err-call.result c.from-residual-in-err-call.ensures.1 in
+pub call-returns-in_err-call : goal.call-returns-in_err-call
+call-returns-in_err-call t c =
+    let exit = err_from_is_err_and c.from_residual-in_err-call.result c.from_residual-in_err-call.ensures.1 in
     let scope = c.args.scope.now in
     let start = view c.args.self.now in
     let inner = view c.opening.new.self in
-    let begun = opened scope c.args.function c.args.left c.args.inside start (view c.bring.new.self) (view c.advance.new.self) inner c.in-ok-bring.ensures.answer c.advance.ensures.after c.in-ok-opening.ensures.answer in
-    rw (exit.1, exit.2) (record { answer = call_broken scope c.args.function c.args.left c.args.inside start inner (view c.arguments.new.self) (view c.arguments.new.self) _ begun c.in-err-call.ensures.answer; balance = tt })
+    let begun = opened scope c.args.function c.args.left c.args.inside start (view c.bring.new.self) (view c.advance.new.self) inner c.in_ok-bring.ensures.answer c.advance.ensures.after c.in_ok-opening.ensures.answer in
+    rw (exit.1, exit.2) (record { answer = call_broken scope c.args.function c.args.left c.args.inside start inner (view c.arguments.new.self) (view c.arguments.new.self) _ begun c.in_err-call.ensures.answer; balance = tt })
 
-pub call-returns-in-err-bound : goal.call-returns-in-err-bound
-call-returns-in-err-bound t c =
-    let exit = err_from_is_err_and c.from-residual-in-err-bound.result c.from-residual-in-err-bound.ensures.1 in
+pub call-returns-in_err-bound : goal.call-returns-in_err-bound
+call-returns-in_err-bound t c =
+    let exit = err_from_is_err_and c.from_residual-in_err-bound.result c.from_residual-in_err-bound.ensures.1 in
     let after = view c.ending.new.self in
     rw (exit.1, exit.2) (record {
-      answer = ending_broken c.args.scope.now c.args.function c.args.left c.args.inside (view c.args.self.now) (view c.opening.new.self) (view c.arguments.new.self) after after c.in-ok-call.call c.at-name.result c.in-err-bound.field-0.0
-          (opened c.args.scope.now c.args.function c.args.left c.args.inside (view c.args.self.now) (view c.bring.new.self) (view c.advance.new.self) (view c.opening.new.self) c.in-ok-bring.ensures.answer c.advance.ensures.after c.in-ok-opening.ensures.answer)
-          c.at-name.ensures c.in-ok-call.ensures.answer c.in-err-bound.ensures.answer;
+      answer = ending_broken c.args.scope.now c.args.function c.args.left c.args.inside (view c.args.self.now) (view c.opening.new.self) (view c.arguments.new.self) after after c.in_ok-call.call c.at-name.result c.in_err-bound.field-0.0
+          (opened c.args.scope.now c.args.function c.args.left c.args.inside (view c.args.self.now) (view c.bring.new.self) (view c.advance.new.self) (view c.opening.new.self) c.in_ok-bring.ensures.answer c.advance.ensures.after c.in_ok-opening.ensures.answer)
+          c.at-name.ensures c.in_ok-call.ensures.answer c.in_err-bound.ensures.answer;
       balance = tt;
     })
 
@@ -48,14 +48,14 @@ call-returns t c =
     let inside = c.args.inside in
     let start = view c.args.self.now in
     let inner = view c.opening.new.self in
-    let begun = opened scope f left inside start (view c.bring.new.self) (view c.advance.new.self) inner c.in-ok-bring.ensures.answer c.advance.ensures.after c.in-ok-opening.ensures.answer in
+    let begun = opened scope f left inside start (view c.bring.new.self) (view c.advance.new.self) inner c.in_ok-bring.ensures.answer c.advance.ensures.after c.in_ok-opening.ensures.answer in
     record {
       answer =
-          call_read scope f left inside start inner (view c.arguments.new.self) (view c.ending.new.self) (view c.write-at.new.self) c.in-ok-call.call c.at-name.result c.in-ok-bound.bound c.write-at.result
-          begun c.at-name.ensures c.in-ok-call.ensures.answer c.in-ok-bound.ensures.answer c.write-at.ensures.after (c.write-at.ensures.answer ∙ sym (counted c.ending.new.self));
+          call_read scope f left inside start inner (view c.arguments.new.self) (view c.ending.new.self) (view c.write-at.new.self) c.in_ok-call.call c.at-name.result c.in_ok-bound.bound c.write-at.result
+          begun c.at-name.ensures c.in_ok-call.ensures.answer c.in_ok-bound.ensures.answer c.write-at.ensures.after (c.write-at.ensures.answer ∙ sym (counted c.ending.new.self));
       balance =
-          balanced_again c.args.self.now c.bring.new.self c.ending.new.self c.write-at.new.self _ _ c.in-ok-bring.ensures.answer c.in-ok-bring.ensures.count
-          (balanced_on c.bring.new.self c.arguments.new.self c.ending.new.self (balanced_on c.bring.new.self c.opening.new.self c.arguments.new.self (balanced_on c.bring.new.self c.advance.new.self c.opening.new.self c.advance.ensures.balance c.in-ok-opening.ensures.balance) c.in-ok-call.ensures.balance) c.in-ok-bound.ensures.balance)
+          balanced_again c.args.self.now c.bring.new.self c.ending.new.self c.write-at.new.self _ _ c.in_ok-bring.ensures.answer c.in_ok-bring.ensures.count
+          (balanced_on c.bring.new.self c.arguments.new.self c.ending.new.self (balanced_on c.bring.new.self c.opening.new.self c.arguments.new.self (balanced_on c.bring.new.self c.advance.new.self c.opening.new.self c.advance.ensures.balance c.in_ok-opening.ensures.balance) c.in_ok-call.ensures.balance) c.in_ok-bound.ensures.balance)
           c.write-at.ensures.count c.write-at.ensures.after;
     }
 
@@ -101,79 +101,79 @@ measure-returns-else-inside t c = record {
   balance = c.call-in-Statistic.ensures.balance;
 }
 
-pub measure-returns-in-default : goal.measure-returns-in-default
-measure-returns-in-default t c = record {
+pub measure-returns-in_default : goal.measure-returns-in_default
+measure-returns-in_default t c = record {
   answer =
-      refused_by c.args.scope.now c.args.left c.args.inside (view c.args.self.now) (tok_of c.word.result) c.breach-in-default.result (view c.args.self.now) c.word.ensures
-      (no_measure c.args.scope.now c.args.left c.args.inside (view c.args.self.now) c.word.result c.in-default.not-Numeral c.in-default.not-Variable c.in-default.not-Unary c.in-default.not-Binary c.in-default.not-Statistic)
-      c.breach-in-default.ensures;
+      refused_by c.args.scope.now c.args.left c.args.inside (view c.args.self.now) (tok_of c.word.result) c.breach-in_default.result (view c.args.self.now) c.word.ensures
+      (no_measure c.args.scope.now c.args.left c.args.inside (view c.args.self.now) c.word.result c.in_default.not-Numeral c.in_default.not-Variable c.in_default.not-Unary c.in_default.not-Binary c.in_default.not-Statistic)
+      c.breach-in_default.ensures;
   balance = tt;
 }
 
-pub one-argument-returns-in-err-argument : goal.one-argument-returns-in-err-argument
-one-argument-returns-in-err-argument t c =
-    let exit = err_from_is_err_and c.from-residual.result c.from-residual.ensures.1 in
+pub one_argument-returns-in_err-argument : goal.one_argument-returns-in_err-argument
+one_argument-returns-in_err-argument t c =
+    let exit = err_from_is_err_and c.from_residual.result c.from_residual.ensures.1 in
     let after = view c.measure.new.self in
-    rw (exit.1, exit.2) (record { answer = one_broken c.args.scope.now c.args.u c.args.left c.args.inside (view c.args.self.now) after after _ c.requires c.in-err-argument.ensures.answer; balance = tt })
+    rw (exit.1, exit.2) (record { answer = one_broken c.args.scope.now c.args.u c.args.left c.args.inside (view c.args.self.now) after after _ c.requires c.in_err-argument.ensures.answer; balance = tt })
 
-pub one-argument-returns : goal.one-argument-returns
-one-argument-returns t c =
-    let o = c.in-ok-argument.argument in
+pub one_argument-returns : goal.one_argument-returns
+one_argument-returns t c =
+    let o = c.in_ok-argument.argument in
     record {
       answer =
           subst (λ (k : Option ℕ). Follows (arguments_way c.args.scope.now (function.Unary c.args.u) c.args.left c.args.inside) (view c.args.self.now) (Ok (record { part = part.Unary c.args.u; bound = k })) (view c.measure.new.self)) (sym c.bound.ensures)
-          (one_read c.args.scope.now c.args.u c.args.left c.args.inside (view c.args.self.now) (view c.measure.new.self) o c.requires c.in-ok-argument.ensures.answer);
-      balance = c.in-ok-argument.ensures.balance;
+          (one_read c.args.scope.now c.args.u c.args.left c.args.inside (view c.args.self.now) (view c.measure.new.self) o c.requires c.in_ok-argument.ensures.answer);
+      balance = c.in_ok-argument.ensures.balance;
     }
 
-pub two-arguments-returns-in-err-first : goal.two-arguments-returns-in-err-first
-two-arguments-returns-in-err-first t c =
-    let exit = err_from_is_err_and c.from-residual.result c.from-residual.ensures.1 in
+pub two_arguments-returns-in_err-first : goal.two_arguments-returns-in_err-first
+two_arguments-returns-in_err-first t c =
+    let exit = err_from_is_err_and c.from_residual.result c.from_residual.ensures.1 in
     let after = view c.measure.new.self in
-    rw (exit.1, exit.2) (record { answer = two_broken_first c.args.scope.now c.args.b c.args.left c.args.inside c.requires (view c.args.self.now) after after c.in-err-first.field-0.0 c.in-err-first.ensures.answer; balance = tt })
+    rw (exit.1, exit.2) (record { answer = two_broken_first c.args.scope.now c.args.b c.args.left c.args.inside c.requires (view c.args.self.now) after after c.in_err-first.field-0.0 c.in_err-first.ensures.answer; balance = tt })
 
-pub two-arguments-returns-in-err-punctuation : goal.two-arguments-returns-in-err-punctuation
-two-arguments-returns-in-err-punctuation t c =
-    let exit = err_from_is_err_and c.from-residual-in-err-punctuation.result c.from-residual-in-err-punctuation.ensures.1 in
+pub two_arguments-returns-in_err-punctuation : goal.two_arguments-returns-in_err-punctuation
+two_arguments-returns-in_err-punctuation t c =
+    let exit = err_from_is_err_and c.from_residual-in_err-punctuation.result c.from_residual-in_err-punctuation.ensures.1 in
     let after = view c.punctuation.new.self in
     rw (exit.1, exit.2) (record {
-      answer = two_broken_comma c.args.scope.now c.args.b c.args.left c.args.inside c.requires (view c.args.self.now) (view c.measure.new.self) after after c.in-ok-first.first c.in-err-punctuation.field-0.0 c.in-ok-first.ensures.answer c.in-err-punctuation.ensures.answer;
+      answer = two_broken_comma c.args.scope.now c.args.b c.args.left c.args.inside c.requires (view c.args.self.now) (view c.measure.new.self) after after c.in_ok-first.first c.in_err-punctuation.field-0.0 c.in_ok-first.ensures.answer c.in_err-punctuation.ensures.answer;
       balance = tt;
     })
 
-pub two-arguments-returns-in-err-second : goal.two-arguments-returns-in-err-second
-two-arguments-returns-in-err-second t c =
-    let exit = err_from_is_err_and c.from-residual-in-err-second.result c.from-residual-in-err-second.ensures.1 in
+pub two_arguments-returns-in_err-second : goal.two_arguments-returns-in_err-second
+two_arguments-returns-in_err-second t c =
+    let exit = err_from_is_err_and c.from_residual-in_err-second.result c.from_residual-in_err-second.ensures.1 in
     let after = view c.measure-2.new.self in
     rw (exit.1, exit.2) (record {
-      answer = two_broken_second c.args.scope.now c.args.b c.args.left c.args.inside c.requires (view c.args.self.now) (view c.measure.new.self) (view c.punctuation.new.self) after after c.in-ok-first.first c.in-err-second.field-0.0 c.in-ok-first.ensures.answer c.in-ok-punctuation.ensures.answer c.in-err-second.ensures.answer;
+      answer = two_broken_second c.args.scope.now c.args.b c.args.left c.args.inside c.requires (view c.args.self.now) (view c.measure.new.self) (view c.punctuation.new.self) after after c.in_ok-first.first c.in_err-second.field-0.0 c.in_ok-first.ensures.answer c.in_ok-punctuation.ensures.answer c.in_err-second.ensures.answer;
       balance = tt;
     })
 
-pub two-arguments-returns : goal.two-arguments-returns
-two-arguments-returns t c =
-    let first = c.in-ok-first.first in
+pub two_arguments-returns : goal.two_arguments-returns
+two_arguments-returns t c =
+    let first = c.in_ok-first.first in
     record {
       answer =
           subst (λ (k : Option ℕ). Follows (arguments_way c.args.scope.now (function.Binary c.args.b) c.args.left c.args.inside) (view c.args.self.now) (Ok (record { part = part.Binary c.args.b first.at; bound = k })) (view c.measure-2.new.self)) (sym c.bound.ensures)
-          (two_read c.args.scope.now c.args.b c.args.left c.args.inside c.requires (view c.args.self.now) (view c.measure.new.self) (view c.punctuation.new.self) (view c.measure-2.new.self) first c.in-ok-second.second c.in-ok-first.ensures.answer c.in-ok-punctuation.ensures.answer c.in-ok-second.ensures.answer);
-      balance = balanced_on c.args.self.now c.punctuation.new.self c.measure-2.new.self (balanced_on c.args.self.now c.measure.new.self c.punctuation.new.self c.in-ok-first.ensures.balance c.in-ok-punctuation.ensures.balance) c.in-ok-second.ensures.balance;
+          (two_read c.args.scope.now c.args.b c.args.left c.args.inside c.requires (view c.args.self.now) (view c.measure.new.self) (view c.punctuation.new.self) (view c.measure-2.new.self) first c.in_ok-second.second c.in_ok-first.ensures.answer c.in_ok-punctuation.ensures.answer c.in_ok-second.ensures.answer);
+      balance = balanced_on c.args.self.now c.punctuation.new.self c.measure-2.new.self (balanced_on c.args.self.now c.measure.new.self c.punctuation.new.self c.in_ok-first.ensures.balance c.in_ok-punctuation.ensures.balance) c.in_ok-second.ensures.balance;
     }
 
-pub window-argument-returns-in-err-argument : goal.window-argument-returns-in-err-argument
-window-argument-returns-in-err-argument t c =
-    let exit = err_from_is_err_and c.from-residual-in-err-argument.result c.from-residual-in-err-argument.ensures.1 in
+pub window_argument-returns-in_err-argument : goal.window_argument-returns-in_err-argument
+window_argument-returns-in_err-argument t c =
+    let exit = err_from_is_err_and c.from_residual-in_err-argument.result c.from_residual-in_err-argument.ensures.1 in
     let after = view c.measure.new.self in
     rw (exit.1, exit.2) (record {
-      answer = λ inside. over_broken c.args.scope.now c.args.s c.args.left inside c.requires (view c.args.self.now) (view c.window.new.self) after after c.in-ok-window.window c.in-err-argument.field-0.0 c.in-ok-window.ensures.answer c.in-err-argument.ensures.answer;
+      answer = λ inside. over_broken c.args.scope.now c.args.s c.args.left inside c.requires (view c.args.self.now) (view c.window.new.self) after after c.in_ok-window.window c.in_err-argument.field-0.0 c.in_ok-window.ensures.answer c.in_err-argument.ensures.answer;
       balance = tt;
     })
 
-pub window-argument-returns : goal.window-argument-returns
-window-argument-returns t c =
+pub window_argument-returns : goal.window_argument-returns
+window_argument-returns t c =
     record {
       answer = λ inside.
-          subst (λ (k : Option ℕ). Follows (arguments_way c.args.scope.now (function.Statistic c.args.s) c.args.left inside) (view c.args.self.now) (Ok (record { part = part.Over c.args.s c.in-ok-window.window; bound = k })) (view c.measure.new.self)) (sym c.bound.ensures)
-          (over_read c.args.scope.now c.args.s c.args.left inside c.requires (view c.args.self.now) (view c.window.new.self) (view c.measure.new.self) c.in-ok-window.window c.in-ok-argument.argument c.in-ok-window.ensures.answer c.in-ok-argument.ensures.answer);
-      balance = balanced_on c.args.self.now c.window.new.self c.measure.new.self c.in-ok-window.ensures.balance c.in-ok-argument.ensures.balance;
+          subst (λ (k : Option ℕ). Follows (arguments_way c.args.scope.now (function.Statistic c.args.s) c.args.left inside) (view c.args.self.now) (Ok (record { part = part.Over c.args.s c.in_ok-window.window; bound = k })) (view c.measure.new.self)) (sym c.bound.ensures)
+          (over_read c.args.scope.now c.args.s c.args.left inside c.requires (view c.args.self.now) (view c.window.new.self) (view c.measure.new.self) c.in_ok-window.window c.in_ok-argument.argument c.in_ok-window.ensures.answer c.in_ok-argument.ensures.answer);
+      balance = balanced_on c.args.self.now c.window.new.self c.measure.new.self c.in_ok-window.ensures.balance c.in_ok-argument.ensures.balance;
     }

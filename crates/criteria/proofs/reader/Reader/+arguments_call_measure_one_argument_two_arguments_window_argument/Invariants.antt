@@ -11,11 +11,11 @@ decreases-call l = 4 * l.left + 2
 abbrev pub decreases-measure : goal.decreases-measure
 decreases-measure l = 4 * l.left + 3
 
-abbrev pub decreases-one-argument : goal.decreases-one-argument
-decreases-one-argument l = 4 * l.left
+abbrev pub decreases-one_argument : goal.decreases-one_argument
+decreases-one_argument l = 4 * l.left
 
-abbrev pub decreases-two-arguments : goal.decreases-two-arguments
-decreases-two-arguments l = 4 * l.left
+abbrev pub decreases-two_arguments : goal.decreases-two_arguments
+decreases-two_arguments l = 4 * l.left
 
-abbrev pub decreases-window-argument : goal.decreases-window-argument
-decreases-window-argument l = 4 * l.left
+abbrev pub decreases-window_argument : goal.decreases-window_argument
+decreases-window_argument l = 4 * l.left

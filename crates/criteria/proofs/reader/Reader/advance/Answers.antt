@@ -8,6 +8,6 @@ pub returns : goal.returns
 returns c = record {
   after =
       ap (λ (s : List Spot). moved (view c.args.self.now) c.args.self.now.brought s)
-      (advanced c.args.self.now.token c.next-token-self.result c.args.self.now.lexer c.next-token-self.new.self c.requires c.next-token-self.ensures.answer c.next-token-self.ensures.after c.next-token-self.ensures.text);
+      (advanced c.args.self.now.token c.next_token-self.result c.args.self.now.lexer c.next_token-self.new.self c.requires c.next_token-self.ensures.answer c.next_token-self.ensures.after c.next_token-self.ensures.text);
   balance = search rules;
 }

@@ -16,9 +16,9 @@ returns c =
     record {
       answer =
           leaf_read c.args.scope.now _ 3 (tree.numeral sign n) (part.Numeral (to_z w64 (of_z w64 c.signed.result))) (view c.args.self.now) (view c.bring.new.self) (view c.advance.new.self) (view c.write-at.new.self) c.write-at.result n
-          (le-leb n most_numeral (omega arith)) c.in-ok-bring.ensures.answer c.advance.ensures.after c.write-at.ensures.after
+          (le-leb n most_numeral (omega arith)) c.in_ok-bring.ensures.answer c.advance.ensures.after c.write-at.ensures.after
           (c.write-at.ensures.answer ∙ sym (counted c.advance.new.self))
           (numeral_bound sign n)
-          (λ _. ap (λ (z : ℤ). part.Numeral z ∷ []) (sym (to_z-of_z w64 c.signed.result (record { sfits = c.signed.type-inv }) ∙ c.signed.ensures)));
+          (λ _. ap (λ (z : ℤ). part.Numeral z ∷ []) (sym (to_z-of_z w64 c.signed.result (record { sfits = c.signed.type_inv }) ∙ c.signed.ensures)));
       balance = search rules;
     }

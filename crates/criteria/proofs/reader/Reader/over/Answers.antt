@@ -12,8 +12,8 @@ returns c =
     let lexer = c.over-lexer.result in
     let kept = ap (λ r. r.now) c.over-lexer.ensures.text in
     let here = c.over-lexer.ensures.place in
-    let found = c.next-token-token.ensures.answer ∙ ap (λ (bs : List ℕ). spot_at bs lexer.at) kept ∙ ap (spot_at text) here in
-    let moved = c.next-token-token.ensures.after ∙ ap (λ (bs : List ℕ). end_at bs lexer.at) kept ∙ ap (end_at text) here in
-    let same = ap (λ r. r.now) c.next-token-token.ensures.text ∙ kept in
+    let found = c.next_token-token.ensures.answer ∙ ap (λ (bs : List ℕ). spot_at bs lexer.at) kept ∙ ap (spot_at text) here in
+    let moved = c.next_token-token.ensures.after ∙ ap (λ (bs : List ℕ). end_at bs lexer.at) kept ∙ ap (end_at text) here in
+    let same = ap (λ r. r.now) c.next_token-token.ensures.text ∙ kept in
     ap (λ (s : List Spot). record { brought = 0; spots = s; parts = []; behind = replicate 128 blank })
-    (begun text c.next-token-token.result c.next-token-token.new.self found moved same)
+    (begun text c.next_token-token.result c.next_token-token.new.self found moved same)

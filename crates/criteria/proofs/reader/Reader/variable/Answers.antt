@@ -12,7 +12,7 @@ returns c =
     record {
       answer =
           leaf_read c.args.scope.now _ 5 (tree.variable c.args.name.now) (part.Variable c.in-Some.column) (view c.args.self.now) (view c.bring.new.self) (view c.advance.new.self) (view c.write-at.new.self) c.write-at.result c.args.scope.now.magnitude
-          (ap (λ (o : Option ℕ). is_some o) (sym named)) c.in-ok-bring.ensures.answer c.advance.ensures.after c.write-at.ensures.after
+          (ap (λ (o : Option ℕ). is_some o) (sym named)) c.in_ok-bring.ensures.answer c.advance.ensures.after c.write-at.ensures.after
           (c.write-at.ensures.answer ∙ sym (counted c.advance.new.self))
           refl
           (λ _. ap (λ (o : Option ℕ). part.Variable (unwrap_or o 0) ∷ []) (sym named));

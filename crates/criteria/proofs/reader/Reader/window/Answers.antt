@@ -5,13 +5,13 @@ use Rattle.criteria.proofs.reader.Reader.window.Goals as goal
 
 pub returns : goal.returns
 returns c =
-    let opened = c.in-ok-punctuation.ensures in
-    let began = c.in-ok-first.ensures in
-    let behind = c.window-behind.ensures in
+    let opened = c.in_ok-punctuation.ensures in
+    let began = c.in_ok-first.ensures in
+    let behind = c.window_behind.ensures in
     let start = c.args.self.now in
     let inner = c.punctuation.new.self in
-    let later = c.first-moment.new.self in
+    let later = c.first_moment.new.self in
     record {
-      answer = window_read (view start) (view inner) (view later) c.in-ok-first.first c.window-behind.result (view c.window-behind.new.self) opened.answer began.answer behind.answer;
-      balance = balanced_through c.window-behind.result start later c.window-behind.new.self (balanced_on start inner later opened.balance began.balance) behind.balance;
+      answer = window_read (view start) (view inner) (view later) c.in_ok-first.first c.window_behind.result (view c.window_behind.new.self) opened.answer began.answer behind.answer;
+      balance = balanced_through c.window_behind.result start later c.window_behind.new.self (balanced_on start inner later opened.balance began.balance) behind.balance;
     }
