@@ -18,8 +18,8 @@ ends_connective : (level : ℕ) (x : ConnectiveSign) → level < sign_level x �
 ends_connective zero x h = tt
 ends_connective (suc level) x h = (ap (λ (b : Bool). cond b (Some x) None) (ne_eqb (sign_level x) (suc level) (λ e. omega arith)), ends_connective level x (omega arith))
 
-sign_at : (level : ℕ) (x : ConnectiveSign) → sign_level x ≡ level → at_level level x ≡ Some x
-sign_at level x e = ap (λ (b : Bool). cond b (Some x) None) (eq-eqb (sign_level x) level e)
+own_level : (level : ℕ) (x : ConnectiveSign) → sign_level x ≡ level → at_level level x ≡ Some x
+own_level level x e = ap (λ (b : Bool). cond b (Some x) None) (eq-eqb (sign_level x) level e)
 
 shorter : {rules : Rules} {n n' : ℕ} {s s' : List Spot} {xs : List Step} → Spelled rules n s xs n' s' → length s' ≤ length s
 shorter {s} none = le_refl (length s)
@@ -48,7 +48,7 @@ module _ (rules : Rules) where
   links_more : (most level : ℕ) (inner : Reader PropertyTree) (x : ConnectiveSign) (p q : PropertyTree) (n place : ℕ) (s : List Spot) {n' : ℕ} {s' : List Spot} → sign_level x ≡ level → Gives q n' s' (linked rules inner p x n (spot (connective x) place ∷ s)) → links (suc most) rules level inner p n (spot (connective x) place ∷ s) ≡ links most rules level inner q n' s'
   unfolding links
   links_more most level inner x p q n place s e g =
-      ap (λ (o : Option ConnectiveSign). elim o [ None ↦ got p n (spot (connective x) place ∷ s) | Some y ↦ and_then (linked rules inner p y n (spot (connective x) place ∷ s)) (links most rules level inner) ]) (sign_at level x e)
+      ap (λ (o : Option ConnectiveSign). elim o [ None ↦ got p n (spot (connective x) place ∷ s) | Some y ↦ and_then (linked rules inner p y n (spot (connective x) place ∷ s)) (links most rules level inner) ]) (own_level level x e)
       ∙ ap (λ (o : Outcome PropertyTree). and_then o (links most rules level inner)) (given g)
 
   runs_on : (d level most : ℕ) (inner : Reader PropertyTree) (x : ConnectiveSign) (l : Link) (p q : PropertyTree) {us : List Tok} {n m n' : ℕ} {s t s' : List Spot} → GivesProperties rules d level (tier rules inner level) → sign_level x ≡ suc level → Linked x l → PropertyText level us q → Ends level (first s').tok → length t ≤ most → tier rules inner (suc level) n s ≡ links most rules (suc level) (tier rules inner level) p m t → Spelled rules m t (bringing (connective x) ∷ (link_rest rules l ++ property_steps rules d q)) n' s' → Runs rules level inner (joined l p q) n n' s s'

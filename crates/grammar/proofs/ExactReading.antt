@@ -2,7 +2,6 @@
 use Rattle.std.proofs.Common.{◌≡◌, ℕ, ◌+◌, List, [], ◌∷◌, ◌++◌, map, length, sym, refl, ap, ◌∙◌, subst, append-nil, arith}
 use mathlib.Core.List.{map-append}
 use Rattle.tokens.specs.Tokens.{Tok, Spot}
-use Rattle.grammar.specs.Derivations.{LogicProperty}
 use Rattle.grammar.specs.Laws.{toks, ended, CannotFollow, Exactly}
 use Rattle.grammar.specs.Layers.{PropertyText, loosest}
 use Rattle.grammar.specs.Reading.{got, fault, first, reading}

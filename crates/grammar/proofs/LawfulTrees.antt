@@ -1,5 +1,5 @@
 -- A tree of which no token breaks a rule is a formula within the limits.
-use Rattle.std.proofs.Common.{◌≡◌, ℕ, zero, suc, ◌+◌, ◌<◌, ◌≤◌, Bool, true, false, ◌&&◌, ltb, leb, List, [], ◌∷◌, ◌++◌, nat_abs, is_some, Some, None, Option, unwrap_or, sym, refl, ap, ◌∙◌, arith, leb-true}
+use Rattle.std.proofs.Common.{◌≡◌, ℕ, zero, suc, ◌<◌, ◌≤◌, Bool, true, false, ◌&&◌, ltb, leb, List, [], ◌∷◌, ◌++◌, nat_abs, is_some, Some, None, Option, unwrap_or, sym, refl, ap, ◌∙◌, arith, leb-true}
 use Rattle.std.specs.List.{AllByRecursion as All}
 use Rattle.std.proofs.lemmas.Bool.Decides.{nat_tests}
 use Rattle.parts.specs.Limits.{lawful, lawful_measure, lawful_prefix, lawful_connective, lawful_window}
@@ -11,7 +11,7 @@ use Rattle.grammar.specs.Layers.{MeasureText, a_numeral, a_variable, a_unary, a_
 use Rattle.grammar.specs.Meanings.{Columns, signed, measure_of, prefix_of, connective_of, property_of, window}
 use Rattle.grammar.specs.Rules.{rules_for}
 use Rattle.grammar.specs.Steps.{Rules, Step, unless, measure_steps, window_steps, lead_steps, link_steps, left_steps, property_steps}
-use Rattle.grammar.specs.Trees.{MeasureTree, numeral, Lead, negation, next, skipping, eventually, always, Link, and, or, implies, iff, until, PropertyTree}
+use Rattle.grammar.specs.Trees.{MeasureTree, Lead, negation, next, skipping, eventually, always, Link, and, or, implies, iff, until, PropertyTree}
 use Rattle.grammar.proofs.FirstBroken.{first_broken_lem}
 use Rattle.grammar.proofs.Keeping.{kept, none_or, unless_none}
 

@@ -11,7 +11,7 @@ use Rattle.tokens.specs.Tokens.{Tok}
 use Rattle.grammar.specs.Layers.{PropertyText, a_comparison, a_prefix, a_bracket, tighter, a_link, link_level}
 use Rattle.grammar.specs.Meanings.{Columns, measure_of, connective_of, property_of}
 use Rattle.grammar.specs.Steps.{Rules, Step, measure_steps, window_steps, lead_steps, link_steps, left_steps, property_steps}
-use Rattle.grammar.specs.Trees.{MeasureTree, numeral, variable, unary, binary, over, Lead, negation, next, skipping, eventually, always, Link, and, or, implies, iff, until, PropertyTree, compare, prefixed, joined}
+use Rattle.grammar.specs.Trees.{MeasureTree, numeral, variable, unary, binary, over, Lead, negation, next, skipping, eventually, always, Link, and, or, implies, iff, until, PropertyTree, joined}
 use Rattle.grammar.proofs.LawfulTrees.{Keeps, all_split}
 
 -- a formula that may bind more loosely takes no deeper nesting, and brackets take one more

@@ -13,7 +13,7 @@ use Rattle.grammar.proofs.Outcomes.{cannot, Right, reads, refuses, then_right}
 use Rattle.grammar.proofs.PropertyReaders.{AProperty, properties, formula_fine}
 use Rattle.grammar.proofs.Spelling.{Spelled, step_tokens, consumed, consumed_then, consumed_tokens}
 use Rattle.grammar.proofs.Spelling as spelling
-use Rattle.grammar.proofs.TextTokens.{Tokens, none, more, property_tokens, property_has_tokens}
+use Rattle.grammar.proofs.TextTokens.{Tokens, more, property_tokens, property_has_tokens}
 use Rattle.grammar.proofs.TokenKinds.{stop_is}
 
 pub reading_right : (rules : Rules) (s : List Spot) → Right rules (properties rules 0 loosest) 0 s (reading rules s)

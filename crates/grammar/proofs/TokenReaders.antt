@@ -10,7 +10,7 @@ use Rattle.grammar.specs.Layers.{LeadText}
 use Rattle.grammar.specs.Reading.{got, fault, bring, first, is_mark, punctuation, opening, signed_numeral, window_numeral, index_numeral, first_moment, last_moment, index_by}
 use Rattle.grammar.specs.Steps.{Rules, Step, unless, or_else, plain, bringing, nesting, limited}
 use Rattle.grammar.specs.Trees.{skipping}
-use Rattle.grammar.proofs.Keeping.{kept, bringing_judged, plain_judged, nesting_judged, limited_judged, leb_left, opened}
+use Rattle.grammar.proofs.Keeping.{bringing_judged, plain_judged, nesting_judged, limited_judged, leb_left, opened}
 use Rattle.grammar.proofs.Outcomes.{Language, Placed, cannot, broken, Right, reads, refuses, Fine, behind}
 use Rattle.grammar.proofs.Spelling.{Spelled, none, more, part}
 use Rattle.grammar.proofs.TokenKinds.{mark_is, signed_numeral_is, window_numeral_is, index_numeral_is}

@@ -1,5 +1,5 @@
 -- The first token of a tree that breaks a rule. Assumes nothing.
-use Rattle.std.specs.Prelude.{ℕ, zero, suc, ◌+◌, Bool, true, false, cond, ◌&&◌, List, [], ◌∷◌, Some, None, Option, nat_le}
+use Rattle.std.specs.Prelude.{ℕ, suc, Bool, cond, ◌&&◌, List, [], ◌∷◌, Some, None, Option, nat_le}
 use Rattle.grammar.specs.Steps.{Rules, Step, unless, or_else}
 
 -- how many parts are brought, once this token is read

@@ -1,11 +1,11 @@
 -- What reading has to do with the grammar: a text is read exactly when the grammar derives its tokens and no token breaks a rule; else it is refused at the first token at fault. Assumes nothing.
-use Rattle.std.specs.Prelude.{◌≡◌, ℕ, ◌-◌, List, [], ◌∷◌, ◌++◌, map, length, take, drop, Some, None, Option, ◌≢◌}
+use Rattle.std.specs.Prelude.{◌≡◌, ℕ, ◌-◌, List, [], ◌∷◌, ◌++◌, map, length, take, drop, Some, None, ◌≢◌}
 use Rattle.std.specs.List.{AllByRecursion as All, slice_get}
 use Rattle.tokens.specs.Tokens.{Tok, Spot, stop}
 use Rattle.grammar.specs.Derivations.{LogicProperty}
 use Rattle.grammar.specs.Faults.{first_broken}
 use Rattle.grammar.specs.Layers.{PropertyText, loosest}
-use Rattle.grammar.specs.Reading.{Outcome, got, fault, first, reading}
+use Rattle.grammar.specs.Reading.{got, fault, first, reading}
 use Rattle.grammar.specs.Steps.{Rules, Step, property_steps}
 use Rattle.grammar.specs.Trees.{PropertyTree}
 

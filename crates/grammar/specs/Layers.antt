@@ -1,5 +1,5 @@
 -- The grammar in layers, between tokens and parse trees: prefixes bind tightest, then ∧, ∨, ⇒, ⇔ and U, each looser than the one before and each grouping to the left. Assumes nothing.
-use Rattle.std.specs.Prelude.{◌≡◌, ℕ, zero, suc, Bool, true, false, List, [], ◌∷◌, ◌++◌}
+use Rattle.std.specs.Prelude.{◌≡◌, ℕ, suc, Bool, true, false, List, [], ◌∷◌, ◌++◌}
 use Rattle.parts.specs.declared.kinds.Binary.{Binary}
 use Rattle.parts.specs.declared.kinds.Comparator.{Comparator}
 use Rattle.parts.specs.declared.kinds.Statistic.{Statistic}

@@ -1,5 +1,5 @@
 -- The formula that a parse tree writes, for the names of a run's columns. Assumes nothing.
-use Rattle.std.specs.Prelude.{ℕ, Bool, List, ℤ, pos, neg_ℤ, Option}
+use Rattle.std.specs.Prelude.{ℕ, List, ℤ, pos, neg_ℤ, Option}
 use Rattle.std.specs.Option.{unwrap_or}
 use Rattle.parts.specs.Formulas as formula
 use Rattle.parts.specs.Formulas.{Measure, Property}

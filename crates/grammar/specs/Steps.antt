@@ -1,5 +1,5 @@
 -- The tokens of a parse tree from the left, each with what it brings and which rule it breaks. Assumes nothing.
-use Rattle.std.specs.Prelude.{ℕ, zero, suc, Bool, true, false, cond, List, [], ◌∷◌, ◌++◌, map, length, Some, None, Option}
+use Rattle.std.specs.Prelude.{ℕ, suc, Bool, true, false, cond, List, [], ◌∷◌, ◌++◌, length, Some, None, Option}
 use Rattle.tokens.specs.Tokens.{Tok, mark, change, comparator, prefix, connective}
 use Rattle.tokens.specs.Tokens as token
 use Rattle.tokens.specs.declared.words.ConnectiveSign.TheVariants as connectives

@@ -4,8 +4,6 @@ use Rattle.parts.specs.declared.kinds.Binary.{Binary}
 use Rattle.parts.specs.declared.kinds.Comparator.{Comparator}
 use Rattle.parts.specs.declared.kinds.Statistic.{Statistic}
 use Rattle.parts.specs.declared.kinds.Unary.{Unary}
-use Rattle.tokens.specs.declared.words.ConnectiveSign.{ConnectiveSign}
-use Rattle.tokens.specs.declared.words.PrefixSign.{PrefixSign}
 use Rattle.tokens.specs.declared.words.Sign.{Sign}
 
 pub data MeasureTree : Type 0 where

@@ -1,5 +1,6 @@
 // The grammar of criteria: which tokens make up a criterion, and which tree they have.
 #![tactic(auto)]
+
 ghost use Rattle.grammar.specs.Laws.{Exactly};
 ghost use Rattle.grammar.specs.Steps.{Rules};
 
