@@ -1,5 +1,5 @@
 -- A whole text, told from the formula that its reading begins with: it is read if the text ends behind the formula, and else refused there.
-use Rattle.std.proofs.Common.{◌≡◌, ℕ, zero, suc, ◌-◌, Bool, true, false, cond, List, [], ◌∷◌, ◌++◌, length, drop, replicate, Ok, sym, refl, ap, ◌∙◌}
+use Rattle.std.proofs.Common.{◌≡◌, ℕ, zero, suc, ◌-◌, Bool, true, false, cond, List, length, drop, replicate, Ok, sym, refl, ap, ◌∙◌}
 use native.Mathlib.Nat.{sub-zero, suc-sub-suc, zero-sub}
 use Rattle.records.specs.Told.{names}
 use Rattle.parts.specs.Order.{parts_of}
