@@ -1,7 +1,7 @@
 -- The grammar of RFC 4180, rule by rule, between bytes and the fields that they stand for. A header is a record like any other here.
 -- Assumes nothing.
 use Rattle.std.specs.Prelude.{◌≡◌, ℕ, true, List, [], ◌∷◌, ◌++◌}
-use Rattle.std.specs.List.{AllByRecursion as All}
+use Rattle.std.specs.List.{AllByRecursion}
 use Rattle.records.specs.Bytes.{comma, quote, cr, lf, text_data}
 
 -- TEXTDATA = %x20-21 / %x23-2B / %x2D-7E
@@ -10,7 +10,7 @@ TextData b = text_data b ≡ true
 
 -- non-escaped = *TEXTDATA
 abbrev pub NonEscaped : List ℕ → Type 0
-NonEscaped bs = All TextData bs
+NonEscaped bs = AllByRecursion TextData bs
 
 -- *(TEXTDATA / COMMA / CR / LF / 2DQUOTE), and the text that it stands for
 pub data Quoted : List ℕ → List ℕ → Type 0 where

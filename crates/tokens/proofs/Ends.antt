@@ -1,13 +1,13 @@
 -- The tokens of a text are tokens, and then its end, which stands at its length.
-use Rattle.std.proofs.Common.{◌≡◌, ℕ, zero, suc, ◌+◌, ◌-◌, ◌<◌, ◌≤◌, Bool, true, false, cond, ◌&&◌, eqb, ltb, List, [], ◌∷◌, ◌++◌, length, get_or, take, drop, Some, None, Option, sym, refl, ap, ◌∙◌, subst, ⊎_elim, arith, length-drop, ltb-false, ltb-true}
-use Rattle.std.specs.List.{prefix_len, AllByRecursion as All}
+use Rattle.std.proofs.Common.{◌≡◌, ℕ, zero, suc, ◌+◌, ◌-◌, ◌<◌, ◌≤◌, Bool, true, false, cond, eqb, ltb, List, [], ◌∷◌, ◌++◌, length, get_or, drop, Some, None, Option, sym, refl, ap, ◌∙◌, ⊎_elim, arith, length-drop, ltb-false, ltb-true}
+use Rattle.std.specs.List.{AllByRecursion}
 use Rattle.std.proofs.lemmas.List.Sums.{prefix_len-le-length}
 use Rattle.std.proofs.lemmas.List.{get_or_past}
 use Rattle.std.proofs.lemmas.Bool.{cases_lt}
 use Rattle.std.proofs.lemmas.Bool.Decides.{nat_tests}
 use Rattle.tokens.specs.Classes.{holds, class_of}
-use Rattle.tokens.specs.Lexing.{Scan, closes, comparator_scan, digits, end_at, figure, letter_named, measure_named, named, printables, scan, scan_by, spot_at, spots, spots_from, spots_within, start, wide_by, wide_sign}
-use Rattle.tokens.specs.Tokens.{Tok, Spot, is_stop, comparator, stop}
+use Rattle.tokens.specs.Lexing.{Scan, closes, digits, end_at, figure, named, printables, scan, scan_by, spot_at, spots, spots_within, start, wide_by, wide_sign}
+use Rattle.tokens.specs.Tokens.{Spot, is_stop, stop}
 use Rattle.tokens.specs.declared.classes.Class.{Class}
 use Rattle.tokens.specs.declared.classes.Class.TheVariants as class
 use Rattle.tokens.specs.declared.spans.Kind.TheVariants.{Space, Letter, Digit}
@@ -70,7 +70,7 @@ stop_at text at false e within s =
 -- tokens, none of them the end, and then the end
 pub record Ended (text : List ℕ) (ss : List Spot) : Type 0 where
   pub tokens : List Spot
-  pub all : All (λ t. is_stop t.tok ≡ false) tokens
+  pub all : AllByRecursion (λ t. is_stop t.tok ≡ false) tokens
   pub split : ss ≡ tokens ++ (the_end text ∷ [])
 
 ended_by : (b : Bool) (text : List ℕ) (at : ℕ) (rest : List Spot) → is_stop (spot_at text at).tok ≡ b → at ≤ length text → (b ≡ false → Ended text rest) → Ended text (spot_at text at ∷ cond b [] rest)

@@ -1,13 +1,13 @@
 -- The tokens of a text one after the other: each but the end has a byte, so that as many as there are bytes, and the end, are all.
-use Rattle.std.proofs.Common.{◌≡◌, ℕ, zero, suc, ◌+◌, ◌-◌, ◌<◌, ◌≤◌, Bool, true, false, cond, eqb, ltb, ◌⊎◌, List, [], ◌∷◌, length, get_or, drop, Some, None, Option, sym, refl, ap, ◌∙◌, subst, inl, inr, arith, length-drop, ltb-true}
+use Rattle.std.proofs.Common.{◌≡◌, ℕ, zero, suc, ◌-◌, ◌<◌, ◌≤◌, Bool, true, false, cond, ltb, List, [], ◌∷◌, length, get_or, drop, Some, None, Option, refl, ap, arith, length-drop, ltb-true}
 use Rattle.std.specs.List.{prefix_len}
 use Rattle.tokens.specs.Classes.{holds, class_of}
 use Rattle.std.proofs.lemmas.Bool.Decides.{nat_tests}
-use Rattle.tokens.specs.Lexing.{Scan, scan, scan_by, letters, digits, wide_sign, wide_by, start, spot_at, end_at, spots_within, spots_from}
+use Rattle.tokens.specs.Lexing.{scan, scan_by, letters, digits, wide_sign, wide_by, start, spot_at, end_at, spots_within, spots_from}
 use Rattle.tokens.specs.declared.spans.Kind.{Kind}
 use Rattle.tokens.specs.declared.spans.Kind.TheVariants.{Letter, Digit}
 use Rattle.tokens.specs.declared.words.ConnectiveSign.{ConnectiveSign}
-use Rattle.tokens.specs.Tokens.{Tok, Spot, is_stop, stop}
+use Rattle.tokens.specs.Tokens.{Spot, is_stop}
 use Rattle.tokens.specs.declared.classes.Class.{Class}
 use Rattle.tokens.specs.declared.classes.Class.TheVariants as class
 

@@ -1,5 +1,5 @@
 -- What the lexer's answers mean, without the references that they hold. Assumes nothing.
-use Rattle.std.specs.Prelude.{ℕ, List}
+use Rattle.std.specs.Prelude.{ℕ}
 use Rattle.tokens.specs.Lexing.{Scan, named, figure}
 use Rattle.tokens.specs.Tokens.{Tok, Spot, mark, change, comparator, unary, binary, statistic, prefix, connective, numeral, variable, stray, stop}
 use Rattle.tokens.specs.declared.token.Lexeme.{Lexeme}

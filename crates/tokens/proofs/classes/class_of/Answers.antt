@@ -1,5 +1,5 @@
 -- The table's rule: its 256 entries are the classes of the bytes, one computed comparison of the whole table.
-use Rattle.std.proofs.Common.{◌<◌, refl, zero-add, arith}
+use Rattle.std.proofs.Common.{◌<◌, zero-add, arith}
 use Rattle.std.proofs.lemmas.List.FromFn.{get_or-map-range_with_len}
 use Rattle.tokens.specs.Classes.{class_of}
 use Rattle.tokens.specs.declared.classes.Class.TheVariants as class
