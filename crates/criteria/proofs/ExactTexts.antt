@@ -1,6 +1,5 @@
 -- A text is read exactly, and what is read of it is a formula.
-use Rattle.std.proofs.Common.{◌≡◌, ℕ, suc, ◌+◌, ◌<◌, ◌≤◌, Bool, true, false, cond, ◌&&◌, leb, List, [], ◌∷◌, ◌++◌, length, Some, None, Option, sym, refl, ap, ◌∙◌, subst, arith}
-use Rattle.std.specs.List.{AllByRecursion}
+use Rattle.std.proofs.Common.{◌≡◌, ℕ, suc, ◌+◌, ◌<◌, ◌≤◌, Bool, true, false, cond, List, [], ◌∷◌, length, Some, Option, sym, ap, ◌∙◌, arith}
 use Rattle.std.specs.Str.{bytes_eq}
 use Rattle.std.proofs.ByRecursion.{All-weaker}
 use Rattle.std.proofs.lemmas.Bool.Decides.{nat_tests}
@@ -8,12 +7,12 @@ use Rattle.records.specs.Headers.{column_from}
 use Rattle.parts.specs.Formulas.{Property}
 use Rattle.parts.specs.Limits.{lawful}
 use Rattle.parts.specs.Nesting.{depth}
-use Rattle.parts.specs.Order.{parts_of, tree_of}
+use Rattle.parts.specs.Order.{parts_of}
 use Rattle.parts.proofs.PartsOfTrees.{tree_of_parts_of}
 use Rattle.tokens.specs.Lexing.{spots}
-use Rattle.tokens.specs.Tokens.{Tok, Spot, is_stop, stop}
+use Rattle.tokens.specs.Tokens.{Tok, Spot, is_stop}
 use Rattle.tokens.proofs.Ends.{spots_end}
-use Rattle.grammar.specs.Laws.{IsToken, Reads, ended, steps, toks}
+use Rattle.grammar.specs.Laws.{IsToken, steps}
 use Rattle.grammar.specs.Meanings.{Columns, property_of}
 use Rattle.grammar.specs.Reading.{got, reading}
 use Rattle.grammar.specs.Rules.{rules_for}

@@ -1,5 +1,5 @@
 -- A criterion, once its lengths, its magnitude and its header are known to be lawful.
-use Rattle.std.proofs.Common.{◌≡◌, ℕ, Bool, true, cond, List, ℤ, Some, Err, Option, Result, sym, ap, ◌∙◌}
+use Rattle.std.proofs.Common.{◌≡◌, ℕ, Bool, true, cond, List, ℤ, Some, Err, Result, sym, ap, ◌∙◌}
 use Rattle.records.specs.Cursor.{Cursor, start}
 use Rattle.records.specs.Headers.{names_at}
 use Rattle.records.specs.declared.fault.RecordFault.{RecordFault}

@@ -1,5 +1,5 @@
 -- A whole text, told from the formula that its reading begins with: it is read if the text ends behind the formula, and else refused there.
-use Rattle.std.proofs.Common.{◌≡◌, ℕ, zero, suc, ◌-◌, Bool, true, false, cond, List, [], ◌∷◌, ◌++◌, length, drop, replicate, Ok, sym, refl, ap, ◌∙◌}
+use Rattle.std.proofs.Common.{◌≡◌, ℕ, zero, suc, ◌-◌, Bool, true, false, cond, List, length, drop, replicate, Ok, sym, refl, ap, ◌∙◌}
 use native.Mathlib.Nat.{sub-zero, suc-sub-suc, zero-sub}
 use Rattle.records.specs.Told.{names}
 use Rattle.parts.specs.Order.{parts_of}
@@ -35,13 +35,13 @@ text_goes_on rules {p} {n} {s} t e goes = behind rules t e ∙ ap (ended p n s) 
 pub text_refused : (rules : Rules) {number place : ℕ} {s : List Spot} (t : List Spot) → formula rules rules.nesting 0 t ≡ fault number place s → reading rules t ≡ fault number place s
 text_refused rules t e = ap (λ (o : Outcome PropertyTree). and_then o (λ p n s. cond (is_stop (first s).tok) (got p n s) (refuse 2 s))) e
 
-pub rule_with_lem : (r : Rule) → rule_with (rule_number r) ≡ r
-rule_with_lem Grammar = refl
-rule_with_lem Limit = refl
-rule_with_lem Order = refl
-rule_with_lem Column = refl
-rule_with_lem Size = refl
-rule_with_lem Bound = refl
+pub rule_of_its_number : (r : Rule) → rule_with (rule_number r) ≡ r
+rule_of_its_number Grammar = refl
+rule_of_its_number Limit = refl
+rule_of_its_number Order = refl
+rule_of_its_number Column = refl
+rule_of_its_number Size = refl
+rule_of_its_number Bound = refl
 
 -- the places behind the parts stay as they were
 pub drop_replicate : {A : Type 0} (k n : ℕ) (x : A) → drop k (replicate n x) ≡ replicate (n - k) x

@@ -2,7 +2,6 @@
 use Rattle.std.specs.Prelude.{ℕ, cond, ◌==◌}
 use Rattle.records.specs.Refusals.{refusal}
 use Rattle.records.specs.declared.fault.Refusal.{Refusal}
-use Rattle.criteria.specs.declared.fault.Breach.{Breach}
 use Rattle.criteria.specs.declared.fault.CriterionFault.{CriterionFault}
 use Rattle.criteria.specs.declared.fault.CriterionFault.TheVariants.{Length, Magnitude, Header, Text}
 use Rattle.criteria.specs.declared.fault.Rule.{Rule}

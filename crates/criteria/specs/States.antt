@@ -1,5 +1,5 @@
 -- What the reader of a text has at hand, and what a call leaves, told from what the grammar's reading answers. Assumes nothing.
-use Rattle.std.specs.Prelude.{◌≡◌, ℕ, ◌+◌, Bool, cond, List, [], ◌∷◌, ◌++◌, length, take, drop, replicate, Ok, Err, Result}
+use Rattle.std.specs.Prelude.{◌≡◌, ℕ, ◌+◌, cond, List, [], ◌∷◌, ◌++◌, length, take, drop, replicate, Ok, Err, Result}
 use Rattle.parts.specs.declared.kinds.Part.{Part}
 use Rattle.tokens.specs.Lexing.{spots, spots_from}
 use Rattle.tokens.specs.Told.{spot_of}

@@ -1,8 +1,7 @@
 -- What each call of the reader does. Assumes nothing.
 use Rattle.std.specs.Prelude.{◌≡◌, ℕ, zero, suc, ◌+◌, ◌-◌, Bool, true, List, [], ◌∷◌, ◌++◌, length, is_some, None, nat_le}
-use Rattle.records.specs.Headers.{column_from}
 use Rattle.records.specs.Told.{names}
-use Rattle.parts.specs.Bounds.{bound_kept, bound_of, if_kept, most_states}
+use Rattle.parts.specs.Bounds.{bound_kept, bound_of, if_kept}
 use Rattle.parts.specs.Formulas as formula
 use Rattle.parts.specs.Formulas.{Measure, Property}
 use Rattle.parts.specs.Limits.{most_numeral}

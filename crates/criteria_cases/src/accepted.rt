@@ -44,8 +44,8 @@ fn joins(
                 Connective::Iff => 4,
                 Connective::Until(_) => 5,
             };
-            assert_eq!(rt; number, connective);
-            assert_eq!(rt; l, left);
+            assert_eq!(rt; number, connective, "part {i}: the connective");
+            assert_eq!(rt; l, left, "part {i}: the left operand");
             Ok(())
         }
         _ => Err(Fail::new("no connective")),

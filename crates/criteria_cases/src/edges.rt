@@ -18,8 +18,9 @@ fn length(rt: HostRuntime) -> Result<(), Fail> {
     let longest = repeated(rt.alloc(), 4_093, b" ", b"0=0")?;
     assert_eq!(rt; formula_of(&longest)?.count(), 3);
     let longer = repeated(rt.alloc(), 4_094, b" ", b"0=0")?;
-    refused(&rt, &longer, 1, 0)?;
-    refused(&rt, b"", 1, 0)
+    refused(&rt, 0, &longer, 1, 0);
+    refused(&rt, 1, b"", 1, 0);
+    Ok(())
 }
 
 // Prefixes, formula brackets and argument lists nest, 32 deep and no deeper.
@@ -27,10 +28,11 @@ fn length(rt: HostRuntime) -> Result<(), Fail> {
 fn nesting(rt: HostRuntime) -> Result<(), Fail> {
     let prefixes = repeated(rt.alloc(), 32, b"~", b"0=0")?;
     assert_eq!(rt; formula_of(&prefixes)?.count(), 35);
-    refused(&rt, &repeated(rt.alloc(), 33, b"~", b"0=0")?, 6, 32)?;
-    refused(&rt, &repeated(rt.alloc(), 33, b"(", b"0=0")?, 6, 32)?;
-    refused(&rt, &repeated(rt.alloc(), 32, b"(", b"abs(0)=0")?, 6, 35)?;
-    refused(&rt, &repeated(rt.alloc(), 32, b"X", b"d({a})=0")?, 2, 0)
+    refused(&rt, 0, &repeated(rt.alloc(), 33, b"~", b"0=0")?, 6, 32);
+    refused(&rt, 1, &repeated(rt.alloc(), 33, b"(", b"0=0")?, 6, 32);
+    refused(&rt, 2, &repeated(rt.alloc(), 32, b"(", b"abs(0)=0")?, 6, 35);
+    refused(&rt, 3, &repeated(rt.alloc(), 32, b"X", b"d({a})=0")?, 2, 0);
+    Ok(())
 }
 
 // Part 129 is refused at the token that brings it.
@@ -39,5 +41,6 @@ fn parts(rt: HostRuntime) -> Result<(), Fail> {
     let most = repeated(rt.alloc(), 31, b"0=0\xE2\x88\xA7", b"~0=0")?;
     assert_eq!(rt; formula_of(&most)?.count(), 128);
     let more = repeated(rt.alloc(), 31, b"0=0\xE2\x88\xA7", b"~~0=0")?;
-    refused(&rt, &more, 6, 190)
+    refused(&rt, 0, &more, 6, 190);
+    Ok(())
 }

@@ -1,11 +1,10 @@
 // Texts that are refused, by their number.
 use super::expect::{FILE, LARGEST, all_refused, refused_as};
 use criteria::{Formula, read};
-use std::test::Fail;
 
 // What begins no token, and a text that stops early, is 2.
 #[test]
-fn no_token(rt: HostRuntime) -> Result<(), Fail> {
+fn no_token(rt: HostRuntime) {
     all_refused(
         &rt,
         2,
@@ -28,12 +27,12 @@ fn no_token(rt: HostRuntime) -> Result<(), Fail> {
             (b"0= ", 3),
             (b"(0=0", 4),
         ],
-    )
+    );
 }
 
 // A token that cannot follow is 2 at its place.
 #[test]
-fn cannot_follow(rt: HostRuntime) -> Result<(), Fail> {
+fn cannot_follow(rt: HostRuntime) {
     all_refused(
         &rt,
         2,
@@ -52,11 +51,11 @@ fn cannot_follow(rt: HostRuntime) -> Result<(), Fail> {
             (b"0", 1),
             (b"add(1)<2", 5),
         ],
-    )
+    );
 }
 
 #[test]
-fn beyond_a_limit(rt: HostRuntime) -> Result<(), Fail> {
+fn beyond_a_limit(rt: HostRuntime) {
     all_refused(
         &rt,
         3,
@@ -67,8 +66,8 @@ fn beyond_a_limit(rt: HostRuntime) -> Result<(), Fail> {
             (b"F[0,1000000001]0=0", 4),
             (b"F[1000000001,0]0=0", 2),
         ],
-    )?;
-    all_refused(&rt, 4, &[(b"F[4,2]({level}<5)", 4), (b"0=0U[1,0]0=0", 7)])?;
+    );
+    all_refused(&rt, 4, &[(b"F[4,2]({level}<5)", 4), (b"0=0U[1,0]0=0", 7)]);
     all_refused(
         &rt,
         5,
@@ -78,12 +77,12 @@ fn beyond_a_limit(rt: HostRuntime) -> Result<(), Fail> {
             (b"{a\"b}=0", 0),
             (b"0={ a}", 2),
         ],
-    )
+    );
 }
 
 // A bound is broken at a measure's closing bracket, and the refusal is placed at its name.
 #[test]
-fn beyond_a_bound(rt: HostRuntime) -> Result<(), Fail> {
+fn beyond_a_bound(rt: HostRuntime) {
     all_refused(
         &rt,
         7,
@@ -92,12 +91,12 @@ fn beyond_a_bound(rt: HostRuntime) -> Result<(), Fail> {
             (b"multiply({a},10001)<1", 0),
             (b"0<multiply(add({a},1),0)", 2),
         ],
-    )
+    );
 }
 
 // The lengths come first, then the magnitude, then the header.
 #[test]
-fn before_the_text(rt: HostRuntime) -> Result<(), Fail> {
+fn before_the_text(rt: HostRuntime) {
     let mut formula = Formula::new();
     let cases: [(&[u8], &[u8], i64, u8, usize); 7] = [
         (b"", b"", 0, 1, 0),
@@ -108,12 +107,11 @@ fn before_the_text(rt: HostRuntime) -> Result<(), Fail> {
         (b"0", b"stay,a\"b", 1, 8, 5),
         (b"0", b"stay,a,a", LARGEST, 9, 7),
     ];
-    for (text, file, magnitude, number, place) in cases {
+    for (i, (text, file, magnitude, number, place)) in cases.into_iter().enumerate() {
         match read(text, file, magnitude, &mut formula) {
-            Ok(()) => return Err(Fail::new("the text is not refused")),
-            Err(fault) => refused_as(&rt, fault, number, place),
+            Ok(()) => assert!(rt; false, "case {i}: the text is not refused"),
+            Err(fault) => refused_as(&rt, i, fault, number, place),
         }
     }
     assert!(rt; read(b"0=0", FILE, 1, &mut formula).is_ok());
-    Ok(())
 }

@@ -1,4 +1,4 @@
-use Rattle.std.proofs.Common.{◌≡◌, Ok, Err, sym, ap, ◌∙◌, to_z-of_z, rules}
+use Rattle.std.proofs.Common.{Err, sym, ap, ◌∙◌, to_z-of_z, rules}
 use Rattle.std.proofs.lemmas.Result.{err_from_is_err_and}
 use Rattle.criteria.specs.Criteria.{after, answer, lawful_magnitude}
 use Rattle.criteria.specs.Told.{written}

@@ -2,7 +2,6 @@ use Rattle.std.proofs.Common.{ℕ, List, [], replicate, ap, ◌∙◌}
 use Rattle.tokens.specs.Lexing.{end_at, spot_at}
 use Rattle.tokens.specs.Tokens.{Spot}
 use Rattle.criteria.specs.Formulas.{blank}
-use Rattle.criteria.specs.States.{View}
 use Rattle.criteria.proofs.Advancing.{begun}
 use Rattle.criteria.proofs.reader.Reader.over.Goals as goal
 
