@@ -1,6 +1,6 @@
 -- What a state that is not refused has. Assumes nothing.
 use Rattle.std.proofs.Common.{◌≡◌, ℕ, ◌<◌, ◌≤◌, true, eqb, leb, List, [], ◌∷◌, ◌++◌, length, get_or, ℤ, pos, negsuc, nat_abs, None, refl, arith}
-use Rattle.std.specs.Int.{is_in_range as within}
+use Rattle.std.specs.Int.{is_in_range}
 use Rattle.std.proofs.ByRecursion.{All-get_or}
 use Rattle.std.proofs.lemmas.Bool.{and_from, and_parts, cases_Bool, eq-eqb, leb-true}
 use Rattle.std.proofs.lemmas.Bool.Decides.{nat_tests}
@@ -9,7 +9,7 @@ use Rattle.runs.specs.Runs.{State}
 use Rattle.runs.specs.declared.shape.Shape.{Shape}
 use Rattle.stores.specs.Cells.{are_lawful, is_lawful, magnitudes_lawful}
 
-stay_magnitude : (longest : ℕ) (stay : ℤ) → stay_within longest stay ≡ true → within 1 longest (nat_abs stay) ≡ true
+stay_magnitude : (longest : ℕ) (stay : ℤ) → stay_within longest stay ≡ true → is_in_range 1 longest (nat_abs stay) ≡ true
 stay_magnitude longest (pos n) e = e
 stay_magnitude longest (negsuc n) e = cc
 
@@ -41,7 +41,7 @@ module _ (shape : Shape) (largest : ℕ) (stay : ℤ) (values : List ℤ) (lawfu
 
   pub offered_lawful : is_lawful shape largest (offered stay values) ≡ true
   offered_lawful =
-      and_from (within 1 shape.longest (nat_abs stay)) _ (stay_magnitude shape.longest stay lawful_stay)
+      and_from (is_in_range 1 shape.longest (nat_abs stay)) _ (stay_magnitude shape.longest stay lawful_stay)
       (and_from (eqb (length values) shape.width) (all_within largest values) (eq-eqb (length values) shape.width lawful_width) lawful_values)
 
 pub lawful_more : (shape : Shape) (largest : ℕ) (ss : List State) (s : State) → are_lawful shape largest ss ≡ true → is_lawful shape largest s ≡ true → are_lawful shape largest (ss ++ (s ∷ [])) ≡ true
