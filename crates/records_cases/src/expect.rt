@@ -7,11 +7,10 @@ pub fn at(row: usize, column: usize, byte: usize) -> Position {
     Position { row, column, byte }
 }
 
-pub fn same_place(rt: &impl Abort, place: Position, expected: Position) -> Result<(), Fail> {
+pub fn same_place(rt: &impl Abort, place: Position, expected: Position) {
     assert_eq!(rt; place.row, expected.row, "the row");
     assert_eq!(rt; place.column, expected.column, "the column");
     assert_eq!(rt; place.byte, expected.byte, "the byte");
-    Ok(())
 }
 
 // `case` says which of several like examples it is, where one fails.
