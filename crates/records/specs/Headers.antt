@@ -2,7 +2,7 @@
 use Rattle.std.specs.Prelude.{ℕ, ◌+◌, Bool, true, false, cond, not, ◌&&◌, ◌||◌, List, [], ◌∷◌, ◌++◌, length, drop, is_ok, Some, None, Ok, Err, codes, Option, Result, ◌==◌, nat_le}
 use Rattle.std.specs.Option.{unwrap_or}
 use Rattle.std.specs.Int.{is_in_range}
-use Rattle.std.specs.List.{slice_get}
+use Rattle.std.specs.List.{list_any, slice_get}
 use Rattle.std.specs.Str.{bytes_eq}
 use Rattle.records.specs.Bytes.{quote}
 use Rattle.records.specs.Cursor.{Cursor, Seen}
@@ -14,15 +14,14 @@ use Rattle.records.specs.declared.fault.RecordFault.TheVariants as fault
 
 -- a byte list holds a byte
 abbrev pub holds : List ℕ → ℕ → Bool
-holds [] b = false
-holds (x ∷ xs) b = x == b || holds xs b
+holds bs b = list_any (λ x. x == b) bs
 
 -- a header field, in which no quote may stand
-abbrev pub title : Seen → Result (Option Seen) RecordFault
-title s = cond (holds s.text quote) (Err (fault.Quote s.at)) (Ok (Some s))
+abbrev pub title : Seen → Result Seen RecordFault
+title s = cond (holds s.text quote) (Err (fault.Quote s.at)) (Ok s)
 
 abbrev pub titles_at : List ℕ → Cursor → Result (Row Seen) RecordFault
-titles_at bs c = row title (λ s. s.next) bs c
+titles_at bs c = row title bs c
 
 -- what a name is made of: the printable characters of ASCII, but for braces
 abbrev pub name_byte : ℕ → Bool

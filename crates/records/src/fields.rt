@@ -4,6 +4,7 @@ ghost use Rattle.std.specs.Prelude.{◌+◌, ◌≤◌, length};
 use super::cut::Next;
 use super::fault::Position;
 
+mod gathered;
 mod read;
 mod records;
 mod titles;
@@ -20,7 +21,7 @@ pub struct Fields<'a> {
 }
 
 // A field as it stands in the bytes. The text is what is between its quotes, if it has them, with doubled quotes still doubled.
-#[derive(Clone, Copy)]
+#[derive(Clone, Copy, PartialEq, Eq, Debug)]
 pub struct Field<'a> {
     pub text: &'a [u8],
     pub quoted: bool,
