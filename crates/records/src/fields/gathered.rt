@@ -14,8 +14,11 @@ use super::{Field, Fields};
 pub(crate) trait Gathered<'a>: Copy {
     // What a field is read as, and what the items of a record that begins there come to.
     ghost Item: { Type 0 };
+
     ghost Sum: { Type 0 };
+
     ghost read: { Seen → Result Item Fault };
+
     ghost sum_of: { Place → List Item → Sum };
 
     // What is gathered says this.

@@ -28,10 +28,13 @@ fn number_in(field: Field) -> Result<Entry, RecordFault>
 // The numbers of a data record.
 impl<'a> Gathered<'a> for Draft {
     ghost Item = { Item };
+
     ghost Sum = { Drafted };
 
     ghost read = { entry };
+
     ghost sum_of = { draft_of };
+
     ghost told = { drafted };
 
     fn none(at: Position) -> Draft {

@@ -17,10 +17,13 @@ const LARGEST_FILE: usize = 65_536;
 // The names of a header, in which no quote may stand.
 impl<'a> Gathered<'a> for Kept<&'a [u8]> {
     ghost Item = { Seen };
+
     ghost Sum = { Firsts (List ℕ) };
 
     ghost read = { title };
+
     ghost sum_of = { titles_of };
+
     ghost told = { λ k. lent (firsts k) };
 
     fn none(at: Position) -> Kept<&'a [u8]> {

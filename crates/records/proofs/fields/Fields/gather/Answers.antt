@@ -1,10 +1,10 @@
-use Rattle.std.proofs.Common.{◌≡◌, ◌<◌, ◌≤◌, Bool, true, false, not, length, Ok, sym, refl, ap, ◌∙◌, subst, arith, rules}
+use Rattle.std.proofs.Common.{◌≡◌, ◌≤◌, true, false, length, Ok, sym, refl, ap, ◌∙◌, subst, rules}
 use Rattle.std.proofs.lemmas.Result.{err_from_is_err_and}
 use denote.Enum.Bare.{sameb}
 use Rattle.records.specs.contracts.cut.Next.{the_type}
 use Rattle.records.specs.declared.cut.Next.TheVariants.{Field}
-use Rattle.records.specs.Told.{cursor, seen_field, told_field}
-use Rattle.records.proofs.Gathering.{Way, Reading, begin, called, text_refused, field_refused, no_more, at_last, goes_on, is_field_by}
+use Rattle.records.specs.Told.{seen_field, told_field}
+use Rattle.records.proofs.Gathering.{begin, called, text_refused, field_refused, no_more, at_last, goes_on, is_field_by}
 use Rattle.records.proofs.fields.Fields.gather.Goals as goal
 
 pub loop-field-init : goal.loop-field-init
