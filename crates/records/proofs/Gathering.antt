@@ -1,22 +1,13 @@
 -- A loop that reads the fields of a record one after the other and gathers what they come to. Assumes nothing.
 use Rattle.std.proofs.Common.{◌≡◌, ℕ, ◌<◌, ◌≤◌, true, false, List, [], ◌∷◌, ◌++◌, length, Some, None, Ok, Err, Option, Result, sym, refl, ap, ◌∙◌, subst, arith, Bor}
-use denote.Enum.Bare.{sameb}
 use Rattle.records.specs.Cursor.{Cursor, Seen, field_at, moved}
 use Rattle.records.specs.Fields.{is_field}
 use Rattle.records.specs.RecordFields.{row, behind_row, gathered, map_ok}
-use Rattle.records.specs.contracts.cut.Next.{the_type}
-use Rattle.records.specs.declared.cut.Next.{Next}
 use Rattle.records.specs.declared.fault.RecordFault.{RecordFault}
 use Rattle.records.specs.declared.fault.RecordFault.TheVariants.{Text}
 use Rattle.records.specs.declared.fault.TextFault.{TextFault}
 use Rattle.records.proofs.Advance.{advances}
 use Rattle.records.proofs.OneRecord.{Sofar, start, broken, ended, faulty, last, one_more}
-
--- what `==` tells of what follows a field
-pub is_field_by : (next : Next) → is_field next ≡ sameb the_type next Next.Field
-is_field_by Next.Field = refl
-is_field_by Next.Record = refl
-is_field_by Next.End = refl
 
 -- How a field is read as an item, and what items come to.
 pub record Way (A D : Type 0) : Type 0 where

@@ -42,7 +42,7 @@ impl<'a> Fields<'a> {
         };
         let text = text_of(rest, cut);
         self.at = next_place(bytes, at, cut);
-        self.ended = cut.next.is_end();
+        self.ended = cut.next == Next::End;
         Ok(Some(Field {
             text,
             quoted: cut.quoted,

@@ -4,7 +4,8 @@ use denote.Enum.Bare.{sameb}
 use Rattle.records.specs.contracts.cut.Next.{the_type}
 use Rattle.records.specs.declared.cut.Next.TheVariants.{Field}
 use Rattle.records.specs.Told.{seen_field, told_field}
-use Rattle.records.proofs.Gathering.{begin, called, text_refused, field_refused, no_more, at_last, goes_on, is_field_by}
+use Rattle.records.proofs.Follows.{is_field_by}
+use Rattle.records.proofs.Gathering.{begin, called, text_refused, field_refused, no_more, at_last, goes_on}
 use Rattle.records.proofs.fields.Fields.gather.Goals as goal
 
 pub loop-field-init : goal.loop-field-init
