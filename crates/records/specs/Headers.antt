@@ -6,7 +6,7 @@ use Rattle.std.specs.List.{list_all, list_any, slice_get}
 use Rattle.std.specs.Str.{bytes_eq}
 use Rattle.records.specs.Bytes.{quote}
 use Rattle.records.specs.Cursor.{Cursor, Seen}
-use Rattle.records.specs.Firsts.{Firsts, firsts_of}
+use Rattle.records.specs.Firsts.{Firsts, firsts_of, kept_fields}
 use Rattle.records.specs.RecordFields.{Row, row, behind_row, gathered}
 use Rattle.records.specs.declared.fault.Position.{Position}
 use Rattle.records.specs.declared.fault.RecordFault.{RecordFault}
@@ -59,7 +59,7 @@ named_by f None = Ok (drop 1 f.values)
 
 -- the names of a header with these fields: their number is looked at first, then each from the left
 abbrev pub names_by : Firsts (List ℕ) → Result (List (List ℕ)) RecordFault
-names_by f = cond (is_in_range 2 17 f.count) (named_by f (bad_title f.values)) (Err (fault.Width f.at))
+names_by f = cond (is_in_range 2 kept_fields f.count) (named_by f (bad_title f.values)) (Err (fault.Width f.at))
 
 abbrev pub names_of : Result (Firsts (List ℕ)) RecordFault → Result (List (List ℕ)) RecordFault
 names_of (Err e) = Err e

@@ -16,6 +16,7 @@ pub enum Next {
 #[derive(Clone, Copy)]
 pub struct Cut {
     pub size: usize,
+    // A field has quotes or not, and has a size in either case.
     pub quoted: bool,
     pub next: Next,
 }

@@ -1,6 +1,6 @@
 // The first fields of a record.
 ghost use Rattle.std.specs.Prelude.{◌≡◌, ◌+◌, ◌^◌, ◌<◌, length};
-ghost use Rattle.records.specs.Firsts.{none, with_one};
+ghost use Rattle.records.specs.Firsts.{kept_fields, none, with_one};
 ghost use Rattle.records.specs.Told.{firsts};
 
 use super::fault::Position;
@@ -48,9 +48,9 @@ impl<T: Copy> Kept<T> {
 
     // How many fields have room here. As slices the arrays tell their lengths to the proof.
     fn room(&self) -> usize
-        ensures room { result ≡ 17 }
-        ensures values { length self.now.values ≡ 17 }
-        ensures places { length self.now.places ≡ 17 }
+        ensures room { result ≡ kept_fields }
+        ensures values { length self.now.values ≡ kept_fields }
+        ensures places { length self.now.places ≡ kept_fields }
     {
         let values: &[T] = &self.values;
         let places: &[Position] = &self.places;

@@ -5,6 +5,7 @@ ghost use Rattle.records.specs.Numerals.{negative, unsigned, magnitude, numeral,
 // An optional sign and digits, any number of zeros in front. A magnitude from 2^64 on is held as 2^64 - 1.
 #[derive(Clone, Copy, PartialEq, Eq, Debug)]
 pub struct Numeral {
+    // A field of its own, since no signed type of 64 bits holds every magnitude with its sign.
     pub negative: bool,
     pub magnitude: u64,
 }

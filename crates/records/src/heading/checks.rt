@@ -28,7 +28,7 @@ fn all_name_bytes(name: &[u8]) -> bool
 fn is_lawful_name(name: &[u8]) -> bool
     ensures { result ≡ lawful_name name.now }
 {
-    1 <= name.len() && name.len() <= LONGEST_NAME && all_name_bytes(name)
+    (1..=LONGEST_NAME).contains(&name.len()) && all_name_bytes(name)
 }
 
 // Whether a field may stand behind these.

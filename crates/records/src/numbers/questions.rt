@@ -28,7 +28,7 @@ impl Record {
         self.fields.values().get(field).copied()
     }
 
-    // The number in the first field.
+    // The number in the first field. A record that was read has one, so callers have no case of None; 0 stands for it.
     pub fn stay(&self) -> i64
         ensures { result ≡ stay_of (numbers_of self.now) }
     {
