@@ -3,9 +3,11 @@ use Rattle.std.proofs.Common.{◌≡◌, ℕ, ◌<◌, ◌≤◌, true, false, L
 use Rattle.records.specs.Cursor.{Cursor, Seen, field_at, moved}
 use Rattle.records.specs.Fields.{is_field}
 use Rattle.records.specs.RecordFields.{row, behind_row, gathered, map_ok}
+use Rattle.records.specs.Told.{told_field}
 use Rattle.records.specs.declared.fault.RecordFault.{RecordFault}
 use Rattle.records.specs.declared.fault.RecordFault.TheVariants.{Text}
 use Rattle.records.specs.declared.fault.TextFault.{TextFault}
+use Rattle.records.specs.declared.fields.Field.{Field}
 use Rattle.records.proofs.Advance.{advances}
 use Rattle.records.proofs.OneRecord.{Sofar, start, broken, ended, faulty, last, one_more}
 
@@ -14,19 +16,19 @@ pub record Way (A D : Type 0) : Type 0 where
   pub read : Seen → Result A RecordFault
   pub of : List A → D
 
+-- one call that yields a field at the cursor c and leaves d
+pub record Call (bs : List ℕ) (c d : Cursor) (r : Result (Option Seen) TextFault) : Type 0 where
+  pub told : r ≡ field_at bs c
+  pub on : d ≡ moved bs c
+
+-- a call speaks of the bytes that the reader holds, which stay the same
+pub called : {here bytes : Bor (List ℕ)} {c d : Cursor} {r answer : Result (Option Field) TextFault} → here ≡ bytes → told_field r ≡ field_at here.now c → d ≡ moved here.now c → r ≡ answer → Call bytes.now c d (told_field answer)
+called {here} {bytes} {c} {d} {r} {answer} same told on is = record {
+  told = subst (λ b. told_field answer ≡ field_at b.now c) same (sym (ap told_field is) ∙ told);
+  on = subst (λ b. d ≡ moved b.now c) same on;
+}
+
 module _ {A D : Type 0} (way : Way A D) where
-  -- one call that yields a field at the cursor c and leaves d
-  pub record Call (bs : List ℕ) (c d : Cursor) (r : Result (Option Seen) TextFault) : Type 0 where
-    pub told : r ≡ field_at bs c
-    pub on : d ≡ moved bs c
-
-  -- a call speaks of the bytes that the reader holds, which stay the same
-  pub called : {here bytes : Bor (List ℕ)} {c d : Cursor} {r : Result (Option Seen) TextFault} → here ≡ bytes → r ≡ field_at here.now c → d ≡ moved here.now c → Call bytes.now c d r
-  called {here} {bytes} {c} {d} {r} same told on = record {
-    told = subst (λ b. r ≡ field_at b.now c) same told;
-    on = subst (λ b. d ≡ moved b.now c) same on;
-  }
-
   -- what is gathered from `first` on up to the cursor c
   pub record Reading (bs : List ℕ) (first c : Cursor) (sum : D) : Type 0 where
     pub items : List A

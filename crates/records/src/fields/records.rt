@@ -13,6 +13,7 @@ use super::{Field, Fields};
 // The largest magnitude of a number in a run file.
 const LARGEST_NUMBER: u32 = 1_000_000_000;
 
+// The number in a field.
 fn number_in(field: Field) -> Result<Entry, RecordFault>
     ensures { result ≡ entry (seen_field field.entry) }
 {

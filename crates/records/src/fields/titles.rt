@@ -3,7 +3,8 @@ ghost use Rattle.std.specs.Prelude.{◌≡◌, ℕ, List};
 ghost use Rattle.records.specs.Cursor.{Seen};
 ghost use Rattle.records.specs.Firsts.{Firsts};
 ghost use Rattle.records.specs.Headers.{behind_header, names_at, title, titles_of};
-ghost use Rattle.records.specs.Told.{cursor, firsts, lent, told_header};
+ghost use Rattle.records.specs.RecordFields.{map_ok};
+ghost use Rattle.records.specs.Told.{cursor, firsts, lent, seen_field, told_header};
 
 use super::super::fault::{Position, RecordFault};
 use super::super::heading::Header;
@@ -14,7 +15,17 @@ use super::{Field, Fields};
 // The most bytes that a run file may have.
 const LARGEST_FILE: usize = 65_536;
 
-// The names of a header, in which no quote may stand.
+// The field, in which no quote may stand.
+fn title_in<'a>(field: Field<'a>) -> Result<Field<'a>, RecordFault>
+    ensures { map_ok seen_field result ≡ title (seen_field field.entry) }
+{
+    if field.text.contains(&b'"') {
+        return Err(RecordFault::Quote(field.at));
+    }
+    Ok(field)
+}
+
+// The fields of a header.
 impl<'a> Gathered<'a> for Kept<&'a [u8]> {
     ghost Item = { Seen };
 
@@ -31,10 +42,8 @@ impl<'a> Gathered<'a> for Kept<&'a [u8]> {
     }
 
     fn take(&mut self, field: Field<'a>) -> Result<(), RecordFault> {
-        if field.text.contains(&b'"') {
-            return Err(RecordFault::Quote(field.at));
-        }
-        self.keep(field.text, field.at);
+        let title = title_in(field)?;
+        self.keep(title.text, title.at);
         Ok(())
     }
 }
