@@ -1,11 +1,12 @@
 -- A late view of a run that is fed or closed is the view, fed or closed. Assumes nothing.
-use Rattle.std.proofs.Common.{◌≡◌, ℕ, zero, suc, ◌+◌, ◌-◌, ◌<◌, ◌≤◌, min, false, not, ◌&&◌, eqb, List, [], ◌∷◌, ◌++◌, length, drop, ℤ, Some, None, Option, sym, refl, ap, ◌∙◌, ⊎_elim, suc-add, zero-add, arith}
+use Rattle.std.proofs.Common.{◌≡◌, ℕ, zero, suc, ◌+◌, ◌-◌, ◌<◌, ◌≤◌, min, false, not, ◌&&◌, eqb, List, [], ◌∷◌, ◌++◌, length, drop, Some, None, Option, sym, refl, ap, ◌∙◌, ⊎_elim, suc-add, zero-add, arith}
 use Rattle.std.specs.List.{slice_get}
 use Rattle.std.proofs.lemmas.List.{drop_all, drop-append-le, length-drop, length_push}
 use Rattle.std.proofs.lemmas.Option.{slice_get_past}
 use Rattle.std.proofs.lemmas.Bool.{cases_lt}
 use Rattle.std.proofs.lemmas.Bool.Decides.{nat_tests}
-use Rattle.runs.specs.Feeding.{after, close_refusal, closed, fed, offered, with_state}
+use Rattle.runs.specs.Feeding.{after, close_refusal, closed, fed, state_of, with_state}
+use Rattle.runs.specs.Offers.{Offered}
 use Rattle.runs.specs.Runs.{Meaning, Run, Sound, State, ended}
 use Rattle.runs.specs.declared.refusal.Refusal.{Refusal}
 use Rattle.runs.specs.declared.shape.Mark.TheVariants.{Closed}
@@ -29,9 +30,9 @@ late_more k s zero run leads =
     (cases_lt (length run.states) k)
 late_more k s (suc n) run leads = rw suc-add
 
-pub late_fed : (largest k : ℕ) (refused : Option Refusal) (stay : ℤ) (values : List ℤ) (m : Meaning) → Sound largest m → viewed k (fed refused stay values m) ≡ fed refused stay values (viewed k m)
-late_fed largest k (Some r) stay values m sound = refl
-late_fed largest k None stay values m sound = late_more k (offered stay values) m.lead m.run sound.leads
+pub late_fed : (largest k : ℕ) (refused : Option Refusal) (o : Offered) (m : Meaning) → Sound largest m → viewed k (fed refused o m) ≡ fed refused o (viewed k m)
+late_fed largest k (Some r) o m sound = refl
+late_fed largest k None o m sound = late_more k (state_of o) m.lead m.run sound.leads
 
 after_viewed : (k : ℕ) (o : Option Refusal) (m n : Meaning) → viewed k (after o m n) ≡ after o (viewed k m) (viewed k n)
 after_viewed k (Some r) m n = refl
