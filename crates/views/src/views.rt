@@ -1,9 +1,6 @@
 // Late views: the run of any recorder without its first states.
 ghost use Rattle.std.specs.Prelude.{◌≡◌, ◌+◌, ◌-◌, ◌^◌, min, not, ◌&&◌, length, drop, ◌==◌};
 ghost use Rattle.std.specs.List.{slice_get};
-ghost use Rattle.runs.specs.Feeding.{after, answer, fed};
-ghost use Rattle.runs.specs.Offers.{told};
-ghost use Rattle.runs.specs.Recorders.{refusal_by};
 ghost use Rattle.runs.specs.Runs.{ended};
 ghost use Rattle.views.specs.Views.{view_sound, viewed};
 
