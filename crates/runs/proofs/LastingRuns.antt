@@ -1,5 +1,5 @@
 -- Whatever calls follow, the states only grow, a closed run no longer changes and the lead only falls. Assumes nothing.
-use Rattle.std.proofs.Common.{◌≡◌, ℕ, zero, suc, Bool, true, false, cond, [], ◌∷◌, ◌++◌, Some, None, Option, sym, refl, ap, ◌∙◌, arith}
+use Rattle.std.proofs.Common.{◌≡◌, ℕ, zero, suc, Bool, true, cond, [], ◌∷◌, ◌++◌, Some, None, Option, sym, refl, ap, ◌∙◌, arith}
 use Rattle.std.proofs.lemmas.List.{append_assoc, append-nil}
 use Rattle.runs.specs.Calls.{Lasting, Later, Step, closes, feeds, stepped}
 use Rattle.runs.specs.Feeding.{after, close_refusal, fed, feed_refusal, state_of, with_state}
@@ -27,8 +27,7 @@ later_more s (suc n) run lasts = record { shape = refl; states = ([], sym (appen
 
 -- what is not refused was not ended
 not_ended : (b : Bool) (o : Option Refusal) → cond b (Some refusal.Ended) o ≡ None → b ≡ true → ⊥
-not_ended true o taken e = let z : ◌≡◌ {A = ℕ} 0 1 = cc in omega arith
-not_ended false o taken e = let z : ◌≡◌ {A = ℕ} 0 1 = cc in omega arith
+not_ended b o taken e = grind (arith, taken, e)
 
 later_fed : (refused : Option Refusal) (o : Offered) (m : Meaning) → (refused ≡ None → ended m.run.mark ≡ true → ⊥) → Later m (fed refused o m)
 later_fed (Some r) o m lasts = later_same m
