@@ -9,6 +9,7 @@ use Rattle.parts.specs.declared.kinds.Binary.{Binary}
 use Rattle.parts.specs.declared.kinds.Comparator.TheVariants.{Equal}
 use Rattle.parts.specs.declared.kinds.Part.{Part}
 use Rattle.parts.specs.declared.kinds.Part.TheVariants as part
+use Rattle.parts.specs.declared.kinds.Quantity.TheVariants.{Value}
 use Rattle.parts.specs.declared.kinds.Statistic.{Statistic}
 use Rattle.parts.specs.declared.kinds.Unary.{Unary}
 use Rattle.parts.specs.declared.kinds.Window.{Window}
@@ -40,9 +41,9 @@ use Rattle.criteria.proofs.Passing.{Grown, both, breaks, follows, goes, longer, 
 -- the arguments of a measure have one part less than it
 pub measure_length : (m : Measure) (start : ℕ) → length (measure_parts start m) ≡ measure_size m
 measure_length m start =
-    let own = part.Compare Equal false (start + measure_size m - 1) ∷ [] in
+    let own = part.Compare Equal Value (start + measure_size m - 1) ∷ [] in
     let zeros = part.Numeral (pos 0) ∷ [] in
-    omega (arith, length-append (measure_parts start m ++ zeros) own, length-append (measure_parts start m) zeros, length_property_parts (formula.compare Equal false m (formula.numeral (pos 0))) start)
+    omega (arith, length-append (measure_parts start m ++ zeros) own, length-append (measure_parts start m) zeros, length_property_parts (formula.compare Equal Value m (formula.numeral (pos 0))) start)
 
 own_last : (at : ℕ) (m : Measure) → measure_parts at m ≡ argument_parts at m ++ (own_part at m ∷ [])
 own_last at (formula.numeral n) = refl

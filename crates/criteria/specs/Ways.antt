@@ -10,6 +10,7 @@ use Rattle.parts.specs.declared.kinds.Connective.{Connective}
 use Rattle.parts.specs.declared.kinds.Part.{Part}
 use Rattle.parts.specs.declared.kinds.Part.TheVariants as part
 use Rattle.parts.specs.declared.kinds.Prefix.{Prefix}
+use Rattle.parts.specs.declared.kinds.Quantity.{Quantity}
 use Rattle.parts.specs.declared.kinds.Window.{Window}
 use Rattle.tokens.specs.declared.words.ConnectiveSign.{ConnectiveSign}
 use Rattle.tokens.specs.declared.words.PrefixSign.{PrefixSign}
@@ -52,11 +53,9 @@ opening_way left = silent (reading.opening left) (λ a. a)
 abbrev pub bring_way : Way Unit Unit
 bring_way = silent (reading.bring common_rules) (λ a. a)
 
-abbrev pub first_moment_way : Way ℕ ℕ
-first_moment_way = silent (λ n s. reading.first_moment common_rules (reading.window_numeral (reading.signed_numeral (reading.first s).tok)) n s) (λ a. a)
-
-abbrev pub last_moment_way : ℕ → Way ℕ ℕ
-last_moment_way a = silent (λ n s. reading.last_moment common_rules a (reading.window_numeral (reading.signed_numeral (reading.first s).tok)) n s) (λ b. b)
+-- a numeral of a window, no less than the one before it, or than 0
+abbrev pub moment_way : ℕ → Way ℕ ℕ
+moment_way a = silent (λ n s. reading.last_moment common_rules a (reading.window_numeral (reading.signed_numeral (reading.first s).tok)) n s) (λ b. b)
 
 abbrev pub window_of : (ℕ × ℕ) → Window
 window_of w = record { first = w.0; last = w.1 }
@@ -142,12 +141,12 @@ proposing columns read = record {
 
 -- what is written behind a left operand, whose part stands at an index
 abbrev pub behind_left : ℕ → ℕ → Property → List Part
-behind_left left_at at (formula.compare c d m n) = measure_parts at n ++ (part.Compare c d left_at ∷ [])
+behind_left left_at at (formula.compare c q m n) = measure_parts at n ++ (part.Compare c q left_at ∷ [])
 behind_left left_at at (formula.prefixed p f) = []
 behind_left left_at at (formula.joined c f g) = property_parts at g ++ (part.Connective c left_at ∷ [])
 
 abbrev pub right_size : Property → ℕ
-right_size (formula.compare c d m n) = measure_size n
+right_size (formula.compare c q m n) = measure_size n
 right_size (formula.prefixed p f) = 0
 right_size (formula.joined c f g) = property_size g
 
@@ -160,8 +159,8 @@ rightward columns left_at read = record {
 }
 
 -- a comparison from its comparator on
-abbrev pub compared_way : Scope → ℕ → Bool → MeasureTree → ℕ → Way PropertyTree ℕ
-compared_way scope left changes m left_at = rightward (columns_of scope) left_at (reading.compared (rules_of scope) left changes m)
+abbrev pub compared_way : Scope → ℕ → Quantity → MeasureTree → ℕ → Way PropertyTree ℕ
+compared_way scope left q m left_at = rightward (columns_of scope) left_at (reading.compared (rules_of scope) left q m)
 
 abbrev pub comparison_way : Scope → ℕ → Way PropertyTree ℕ
 comparison_way scope left = proposing (columns_of scope) (reading.comparison (rules_of scope) left)

@@ -1,6 +1,7 @@
 // The reader of a text: its tokens from the one at hand on, and the parts so far.
 ghost use Rattle.std.specs.Prelude.{◌≡◌, ◌≤◌, length};
 
+use super::formula::MOST_PARTS;
 use parts::Part;
 use tokens::{Lexer, Token};
 
@@ -20,9 +21,6 @@ mod properties;
 mod whole;
 
 pub use whole::read_text;
-
-// A criterion has at most so many parts.
-pub const MOST_PARTS: usize = 128;
 
 #[derive(Clone, Copy)]
 pub struct Reader<'t> {

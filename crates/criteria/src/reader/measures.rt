@@ -71,12 +71,10 @@ impl<'t> Reader<'t> {
         if !self.is_at(Punctuation::Close) {
             return Err(self.breach(Rule::Grammar));
         }
-        let Some(bound) = bound else {
-            return Err(Breach {
-                rule: Rule::Bound,
-                place,
-            });
-        };
+        let bound = bound.ok_or(Breach {
+            rule: Rule::Bound,
+            place,
+        })?;
         self.advance();
         Ok(bound)
     }

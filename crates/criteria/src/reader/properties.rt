@@ -9,7 +9,7 @@ ghost use Rattle.criteria.specs.Ways.{Ends, bracketed_way, change_comparison_way
 use super::super::fault::{Breach, Rule};
 use super::super::scope::Scope;
 use super::{MOST_PARTS, Reader};
-use parts::{Connective, Part, Prefix};
+use parts::{Connective, Part, Prefix, Quantity};
 use tokens::{ConnectiveSign, PrefixSign, Punctuation, Sign, Word};
 
 // The largest index of X.
@@ -24,10 +24,10 @@ impl<'t> Reader<'t> {
         &mut self,
         scope: &Scope<'_>,
         left: usize,
-        changes: bool,
+        quantity: Quantity,
         left_at: usize,
     ) -> Result<usize, Breach>
-        ensures answer { (m : MeasureTree) → Follows (compared_way scope.now left changes m left_at) (view self.old) result (view self.new) }
+        ensures answer { (m : MeasureTree) → Follows (compared_way scope.now left quantity m left_at) (view self.old) result (view self.new) }
         ensures balance { OnOk result (Balanced self.old self.new) }
     {
         let Word::Comparator(comparator) = self.token.word() else {
@@ -36,7 +36,7 @@ impl<'t> Reader<'t> {
         self.bring()?;
         self.advance();
         self.measure(scope, left, false)?;
-        Ok(self.write(Part::Compare(comparator, changes, left_at)))
+        Ok(self.write(Part::Compare(comparator, quantity, left_at)))
     }
 
     fn comparison(&mut self, scope: &Scope<'_>, left: usize) -> Result<usize, Breach>
@@ -44,7 +44,7 @@ impl<'t> Reader<'t> {
         ensures balance { OnOk result (Balanced self.old self.new) }
     {
         let first = self.measure(scope, left, false)?;
-        self.compared(scope, left, false, first.at)
+        self.compared(scope, left, Quantity::Value, first.at)
     }
 
     // The token at hand is d.
@@ -57,7 +57,7 @@ impl<'t> Reader<'t> {
         self.opening(left)?;
         let first = self.measure(scope, left - 1, false)?;
         self.punctuation(Punctuation::Close)?;
-        self.compared(scope, left, true, first.at)
+        self.compared(scope, left, Quantity::Change, first.at)
     }
 
     // The index of X, behind its bracket.

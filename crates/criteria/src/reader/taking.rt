@@ -32,10 +32,7 @@ impl<'t> Reader<'t> {
     pub(super) fn is_at(&self, p: Punctuation) -> bool
         ensures { result ≡ is_mark p (first (view self.now).spots).tok }
     {
-        match self.token.word() {
-            Word::Punctuation(q) => p as u8 == q as u8,
-            _ => false,
-        }
+        matches!(self.token.word(), Word::Punctuation(q) if p == q)
     }
 
     pub(super) fn punctuation(&mut self, p: Punctuation) -> Result<(), Breach>

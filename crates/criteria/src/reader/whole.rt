@@ -39,10 +39,7 @@ impl<'t> Reader<'t> {
     fn is_ended(&self) -> bool
         ensures { result ≡ is_stop (first (view self.now).spots).tok }
     {
-        match self.token.word() {
-            Word::Stop => true,
-            _ => false,
-        }
+        matches!(self.token.word(), Word::Stop)
     }
 
     // The formula of the parts that are written.

@@ -1,6 +1,7 @@
-use Rattle.std.proofs.Common.{false, sym, refl, ◌∙◌}
+use Rattle.std.proofs.Common.{sym, refl, ◌∙◌}
 use Rattle.std.proofs.lemmas.Result.{err_from_is_err_and}
 use Rattle.parts.specs.declared.kinds.Comparator.TheVariants.{Equal}
+use Rattle.parts.specs.declared.kinds.Quantity.TheVariants.{Value}
 use Rattle.tokens.specs.declared.words.Sign.TheVariants.{Unsigned}
 use Rattle.tokens.specs.Told.{tok_of}
 use Rattle.tokens.specs.Tokens as tok
@@ -87,7 +88,7 @@ links-returns-in_err-at t c =
 
 pub links-loop-sign-smaller : goal.links-loop-sign-smaller
 links-loop-sign-smaller t c =
-    link_forward c.args.scope.now c.args.left c.args.level c.in-Some.sign c.loop-sign.at c.in_ok-at.at (view c.loop-sign.self) (view c.linked.new.self) c.in-Some.ensures c.in_ok-at.ensures.answer (tree.compare false Equal (tree.numeral Unsigned 0) (tree.numeral Unsigned 0))
+    link_forward c.args.scope.now c.args.left c.args.level c.in-Some.sign c.loop-sign.at c.in_ok-at.at (view c.loop-sign.self) (view c.linked.new.self) c.in-Some.ensures c.in_ok-at.ensures.answer (tree.compare Value Equal (tree.numeral Unsigned 0) (tree.numeral Unsigned 0))
 
 pub links-returns : goal.links-returns
 links-returns t c = record {

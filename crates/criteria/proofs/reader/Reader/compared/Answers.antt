@@ -13,7 +13,7 @@ returns c =
     let before = c.measure.new.self in
     record {
       answer = λ m.
-          compared_read c.args.scope.now c.args.left c.args.changes m c.args.left_at c.in-Comparator.comparator (view start) (view c.bring.new.self) (view c.advance.new.self) (view before) (view c.write.new.self) c.in_ok-measure.field-0 c.write.result
+          compared_read c.args.scope.now c.args.left c.args.quantity m c.args.left_at c.in-Comparator.comparator (view start) (view c.bring.new.self) (view c.advance.new.self) (view before) (view c.write.new.self) c.in_ok-measure.field-0 c.write.result
           c.in-Comparator.ensures brought.answer c.advance.ensures.after right.answer c.write.ensures.after (c.write.ensures.answer ∙ sym (counted before));
       balance =
           balanced_again start c.bring.new.self before c.write.new.self _ _ brought.answer brought.count
