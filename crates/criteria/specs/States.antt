@@ -12,6 +12,7 @@ use Rattle.criteria.specs.Formulas.{blank}
 use Rattle.criteria.specs.Refusals.{rule_number}
 use Rattle.criteria.specs.declared.fault.Breach.{Breach}
 use Rattle.criteria.specs.declared.reader.Reader.{Reader}
+use Rattle.criteria.specs.declared.scope.Scope.{Scope}
 
 -- the token at hand and those behind it
 abbrev pub ahead : Token → Lexer → List Spot
@@ -19,6 +20,8 @@ ahead token lexer = spot_of token ∷ cond (is_stop (spot_of token).tok) [] (spo
 
 -- the parts brought and the tokens left, as the grammar's reading has them, and the parts written, with the places behind them
 pub record View : Type 0 where
+  -- what the text is read for
+  pub scope : Scope
   pub brought : ℕ
   pub spots : List Spot
   pub parts : List Part
@@ -26,6 +29,7 @@ pub record View : Type 0 where
 
 abbrev pub view : Reader → View
 view r = record {
+  scope = r.scope.now;
   brought = r.brought;
   spots = ahead r.token r.lexer;
   parts = take r.count r.parts;
@@ -34,10 +38,10 @@ view r = record {
 
 -- so many parts brought, these tokens left, and these parts more
 abbrev pub grown : View → List Part → ℕ → List Spot → View
-grown v ps n s = record { brought = n; spots = s; parts = v.parts ++ ps; behind = drop (length ps) v.behind }
+grown v ps n s = record { scope = v.scope; brought = n; spots = s; parts = v.parts ++ ps; behind = drop (length ps) v.behind }
 
 abbrev pub moved : View → ℕ → List Spot → View
-moved v n s = record { brought = n; spots = s; parts = v.parts; behind = v.behind }
+moved v n s = record { scope = v.scope; brought = n; spots = s; parts = v.parts; behind = v.behind }
 
 -- What a call does: it reads as the grammar's reading does, answers a value, and writes parts, the first at an index.
 pub record Way (A B : Type 0) : Type 0 where
@@ -63,5 +67,5 @@ abbrev pub Balanced : Reader → Reader → Type 0
 Balanced a b = b.count + a.brought ≡ b.brought + a.count
 
 -- a text of which nothing is read yet
-abbrev pub unread : List ℕ → View
-unread text = record { brought = 0; spots = spots text; parts = []; behind = replicate 128 blank }
+abbrev pub unread : Scope → List ℕ → View
+unread scope text = record { scope = scope; brought = 0; spots = spots text; parts = []; behind = replicate 128 blank }

@@ -1,5 +1,5 @@
 -- What each call of the reader does. Assumes nothing.
-use Rattle.std.specs.Prelude.{◌≡◌, ℕ, zero, suc, ◌+◌, ◌-◌, Bool, true, List, [], ◌∷◌, ◌++◌, length, is_some, None, nat_le}
+use Rattle.std.specs.Prelude.{◌≡◌, ℕ, zero, suc, ◌+◌, ◌-◌, Bool, true, List, [], ◌∷◌, ◌++◌, length, is_some, None, Option, nat_le}
 use Rattle.records.specs.Told.{names}
 use Rattle.parts.specs.Bounds.{bound_kept, bound_of, if_kept}
 use Rattle.parts.specs.Formulas as formula
@@ -110,14 +110,18 @@ own_part at (formula.unary u m) = part.Unary u
 own_part at (formula.binary b m n) = part.Binary b (at + measure_size m - 1)
 own_part at (formula.over s w m) = part.Over s w
 
--- the part to be written behind the arguments, and the measure's bound, where it is kept
-abbrev pub called : ℕ → ℕ → Measure → Call
-called largest at m = record { part = own_part at m; bound = if_kept (bound_kept largest m) (bound_of largest m) }
+-- a measure's bound, where it is kept
+abbrev pub kept_bound : Scope → MeasureTree → Option ℕ
+kept_bound scope m = if_kept (bound_kept scope.magnitude (measure_of (columns_of scope) m)) (bound_of scope.magnitude (measure_of (columns_of scope) m))
+
+-- the part to be written behind the arguments, and that bound
+abbrev pub called : Scope → ℕ → MeasureTree → Call
+called scope at m = record { part = own_part at (measure_of (columns_of scope) m); bound = kept_bound scope m }
 
 abbrev pub arguments_way : Scope → Function → ℕ → Bool → Way MeasureTree Call
 arguments_way scope f left inside = record {
   read = arguments_of (rules_of scope) f left inside;
-  value = λ at m. called scope.magnitude at (measure_of (columns_of scope) m);
+  value = called scope;
   parts = λ at m. argument_parts at (measure_of (columns_of scope) m);
 }
 

@@ -2,6 +2,7 @@
 ghost use Rattle.std.specs.Prelude.{◌≡◌, ◌≤◌, length};
 
 use super::formula::MOST_PARTS;
+use super::scope::Scope;
 use parts::Part;
 use tokens::{Lexer, Token};
 
@@ -24,8 +25,11 @@ pub use whole::read_text;
 
 #[derive(Clone, Copy)]
 pub struct Reader<'t> {
+    // What the text is read for.
+    scope: &'t Scope<'t>,
     lexer: Lexer<'t>,
     token: Token<'t>,
+    // Fixed memory with a count, which becomes the formula's: there is no heap.
     parts: [Part; MOST_PARTS],
     // How many parts are written, and how many the tokens so far have brought.
     count: usize,

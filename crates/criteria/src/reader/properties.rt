@@ -7,7 +7,6 @@ ghost use Rattle.criteria.specs.States.{Balanced, Follows, View, view};
 ghost use Rattle.criteria.specs.Ways.{Ends, bracketed_way, change_comparison_way, columns_of, compared_way, comparison_way, index_way, lead_way, link_way, linked_way, links_way, next_lead_way, operand_way, prefix_sign_way, prefixed_way, tier_way};
 
 use super::super::fault::{Breach, Rule};
-use super::super::scope::Scope;
 use super::{MOST_PARTS, Reader};
 use parts::{Connective, Part, Prefix, Quantity};
 use tokens::{ConnectiveSign, PrefixSign, Punctuation, Sign, Word};
@@ -20,14 +19,8 @@ const LOOSEST: usize = 5;
 
 impl<'t> Reader<'t> {
     // A comparison from its comparator on, behind its left measure, whose part stands at an index.
-    fn compared(
-        &mut self,
-        scope: &Scope<'_>,
-        left: usize,
-        quantity: Quantity,
-        left_at: usize,
-    ) -> Result<usize, Breach>
-        ensures answer { (m : MeasureTree) → Follows (compared_way scope.now left quantity m left_at) (view self.old) result (view self.new) }
+    fn compared(&mut self, left: usize, quantity: Quantity, left_at: usize) -> Result<usize, Breach>
+        ensures answer { (m : MeasureTree) → Follows (compared_way self.old.scope.now left quantity m left_at) (view self.old) result (view self.new) }
         ensures balance { OnOk result (Balanced self.old self.new) }
     {
         let Word::Comparator(comparator) = self.token.word() else {
@@ -35,29 +28,29 @@ impl<'t> Reader<'t> {
         };
         self.bring()?;
         self.advance();
-        self.measure(scope, left, false)?;
+        self.measure(left, false)?;
         Ok(self.write(Part::Compare(comparator, quantity, left_at)))
     }
 
-    fn comparison(&mut self, scope: &Scope<'_>, left: usize) -> Result<usize, Breach>
-        ensures answer { Follows (comparison_way scope.now left) (view self.old) result (view self.new) }
+    fn comparison(&mut self, left: usize) -> Result<usize, Breach>
+        ensures answer { Follows (comparison_way self.old.scope.now left) (view self.old) result (view self.new) }
         ensures balance { OnOk result (Balanced self.old self.new) }
     {
-        let first = self.measure(scope, left, false)?;
-        self.compared(scope, left, Quantity::Value, first.at)
+        let first = self.measure(left, false)?;
+        self.compared(left, Quantity::Value, first.at)
     }
 
     // The token at hand is d.
-    fn change_comparison(&mut self, scope: &Scope<'_>, left: usize) -> Result<usize, Breach>
+    fn change_comparison(&mut self, left: usize) -> Result<usize, Breach>
         requires { is_stop (first (view self.old).spots).tok ≡ false }
-        ensures answer { Follows (change_comparison_way scope.now left) (view self.old) result (view self.new) }
+        ensures answer { Follows (change_comparison_way self.old.scope.now left) (view self.old) result (view self.new) }
         ensures balance { OnOk result (Balanced self.old self.new) }
     {
         self.advance();
         self.opening(left)?;
-        let first = self.measure(scope, left - 1, false)?;
+        let first = self.measure(left - 1, false)?;
         self.punctuation(Punctuation::Close)?;
-        self.compared(scope, left, Quantity::Change, first.at)
+        self.compared(left, Quantity::Change, first.at)
     }
 
     // The index of X, behind its bracket.
@@ -118,39 +111,39 @@ impl<'t> Reader<'t> {
 
     // The token at hand is this prefix's sign.
     #[cycle(bracketed_formula_linked_links_operand_prefix_tier)]
-    fn prefix(&mut self, scope: &Scope<'_>, left: usize, sign: PrefixSign) -> Result<usize, Breach>
+    fn prefix(&mut self, left: usize, sign: PrefixSign) -> Result<usize, Breach>
         requires { is_stop (first (view self.old).spots).tok ≡ false }
-        ensures answer { Follows (prefixed_way scope.now left sign) (view self.old) result (view self.new) }
+        ensures answer { Follows (prefixed_way self.old.scope.now left sign) (view self.old) result (view self.new) }
         ensures balance { OnOk result (Balanced self.old self.new) }
     {
         self.prefix_sign(left)?;
         let prefix = self.lead(sign)?;
-        self.operand(scope, left - 1)?;
+        self.operand(left - 1)?;
         Ok(self.write(Part::Prefix(prefix)))
     }
 
     #[cycle(bracketed_formula_linked_links_operand_prefix_tier)]
-    fn bracketed(&mut self, scope: &Scope<'_>, left: usize) -> Result<usize, Breach>
-        ensures answer { Follows (bracketed_way scope.now left) (view self.old) result (view self.new) }
+    fn bracketed(&mut self, left: usize) -> Result<usize, Breach>
+        ensures answer { Follows (bracketed_way self.old.scope.now left) (view self.old) result (view self.new) }
         ensures balance { OnOk result (Balanced self.old self.new) }
     {
         self.opening(left)?;
-        let at = self.formula(scope, left - 1)?;
+        let at = self.formula(left - 1)?;
         self.punctuation(Punctuation::Close)?;
         Ok(at)
     }
 
     // What a prefix can stand before.
     #[cycle(bracketed_formula_linked_links_operand_prefix_tier)]
-    fn operand(&mut self, scope: &Scope<'_>, left: usize) -> Result<usize, Breach>
-        ensures answer { Follows (operand_way scope.now left) (view self.old) result (view self.new) }
+    fn operand(&mut self, left: usize) -> Result<usize, Breach>
+        ensures answer { Follows (operand_way self.old.scope.now left) (view self.old) result (view self.new) }
         ensures balance { OnOk result (Balanced self.old self.new) }
     {
         match self.token.word() {
-            Word::Punctuation(_) => self.bracketed(scope, left),
-            Word::Prefix(sign) => self.prefix(scope, left, sign),
-            Word::Change => self.change_comparison(scope, left),
-            _ => self.comparison(scope, left),
+            Word::Punctuation(_) => self.bracketed(left),
+            Word::Prefix(sign) => self.prefix(left, sign),
+            Word::Change => self.change_comparison(left),
+            _ => self.comparison(left),
         }
     }
 
@@ -182,63 +175,56 @@ impl<'t> Reader<'t> {
     #[cycle(bracketed_formula_linked_links_operand_prefix_tier)]
     fn linked(
         &mut self,
-        scope: &Scope<'_>,
         level: usize,
         left: usize,
         sign: ConnectiveSign,
         left_at: usize,
     ) -> Result<usize, Breach>
         requires { is_stop (first (view self.old).spots).tok ≡ false }
-        ensures answer { (p : PropertyTree) → Follows (linked_way scope.now left level p sign left_at) (view self.old) result (view self.new) }
+        ensures answer { (p : PropertyTree) → Follows (linked_way self.old.scope.now left level p sign left_at) (view self.old) result (view self.new) }
         ensures balance { OnOk result (Balanced self.old self.new) }
     {
         self.bring()?;
         self.advance();
         let connective = self.link(sign)?;
-        self.tier(scope, level, left)?;
+        self.tier(level, left)?;
         Ok(self.write(Part::Connective(connective, left_at)))
     }
 
     // The connectives of this level that follow what was read last, whose part stands at an index.
     #[cycle(bracketed_formula_linked_links_operand_prefix_tier)]
-    fn links(
-        &mut self,
-        scope: &Scope<'_>,
-        level: usize,
-        left: usize,
-        first_at: usize,
-    ) -> Result<usize, Breach>
+    fn links(&mut self, level: usize, left: usize, first_at: usize) -> Result<usize, Breach>
         requires { 0 < level }
-        ensures answer { (p : PropertyTree) (v : View) → Ends (columns_of scope.now) v p (view self.old) first_at → Follows (links_way scope.now left level p) v result (view self.new) }
+        ensures answer { (p : PropertyTree) (v : View) → Ends (columns_of v.scope) v p (view self.old) first_at → Follows (links_way v.scope left level p) v result (view self.new) }
         ensures balance { OnOk result (Balanced self.old self.new) }
     {
         let mut at = first_at;
         while let Some(sign) = self.sign_at(level) {
-            at = self.linked(scope, level - 1, left, sign, at)?;
+            at = self.linked(level - 1, left, sign, at)?;
         }
         Ok(at)
     }
 
     // What is bound as tightly as this level.
     #[cycle(bracketed_formula_linked_links_operand_prefix_tier)]
-    fn tier(&mut self, scope: &Scope<'_>, level: usize, left: usize) -> Result<usize, Breach>
-        ensures answer { Follows (tier_way scope.now left level) (view self.old) result (view self.new) }
+    fn tier(&mut self, level: usize, left: usize) -> Result<usize, Breach>
+        ensures answer { Follows (tier_way self.old.scope.now left level) (view self.old) result (view self.new) }
         ensures balance { OnOk result (Balanced self.old self.new) }
     {
         if level == 0 {
-            return self.operand(scope, left);
+            return self.operand(left);
         }
-        let at = self.tier(scope, level - 1, left)?;
-        self.links(scope, level, left, at)
+        let at = self.tier(level - 1, left)?;
+        self.links(level, left, at)
     }
 
     // A whole formula, where so many nestings are left.
     #[cycle(bracketed_formula_linked_links_operand_prefix_tier)]
-    pub(super) fn formula(&mut self, scope: &Scope<'_>, left: usize) -> Result<usize, Breach>
-        ensures answer { Follows (tier_way scope.now left 5) (view self.old) result (view self.new) }
+    pub(super) fn formula(&mut self, left: usize) -> Result<usize, Breach>
+        ensures answer { Follows (tier_way self.old.scope.now left 5) (view self.old) result (view self.new) }
         ensures balance { OnOk result (Balanced self.old self.new) }
     {
-        self.tier(scope, LOOSEST, left)
+        self.tier(LOOSEST, left)
     }
 }
 
