@@ -1,5 +1,5 @@
 -- What the reader of a text has at hand, and what a call leaves, told from what the grammar's reading answers. Assumes nothing.
-use Rattle.std.specs.Prelude.{◌≡◌, ℕ, ◌+◌, cond, List, [], ◌∷◌, ◌++◌, length, take, drop, replicate, Ok, Err, Result}
+use Rattle.std.specs.Prelude.{◌≡◌, ℕ, ◌+◌, false, cond, List, [], ◌∷◌, ◌++◌, length, take, drop, replicate, Ok, Err, OnOk, Result}
 use Rattle.parts.specs.declared.kinds.Part.{Part}
 use Rattle.tokens.specs.Lexing.{spots, spots_from}
 use Rattle.tokens.specs.Told.{spot_of}
@@ -36,6 +36,10 @@ view r = record {
   behind = drop r.count r.parts;
 }
 
+-- the token at hand is not the end
+abbrev pub AtToken : Reader → Type 0
+AtToken r = is_stop (reading.first (view r).spots).tok ≡ false
+
 -- so many parts brought, these tokens left, and these parts more
 abbrev pub grown : View → List Part → ℕ → List Spot → View
 grown v ps n s = record { scope = v.scope; brought = n; spots = s; parts = v.parts ++ ps; behind = drop (length ps) v.behind }
@@ -65,6 +69,11 @@ Follows way v r w = told r w ≡ image way v (way.read v.brought v.spots)
 -- as many parts are written as are brought
 abbrev pub Balanced : Reader → Reader → Type 0
 Balanced a b = b.count + a.brought ≡ b.brought + a.count
+
+-- a call did what its way says: it answered and left that, and wrote as many parts as it brought
+pub record Does {A B : Type 0} (way : Way A B) (a : Reader) (r : Result B Breach) (b : Reader) : Type 0 where
+  pub answer : Follows way (view a) r (view b)
+  pub balance : OnOk r (Balanced a b)
 
 -- a text of which nothing is read yet
 abbrev pub unread : Scope → List ℕ → View

@@ -1,10 +1,8 @@
 // Measures.
-ghost use Rattle.std.specs.Prelude.{◌≡◌, ◌<◌, ◌≤◌, Bool, false, OnOk};
-ghost use Rattle.tokens.specs.Tokens.{is_stop};
+ghost use Rattle.std.specs.Prelude.{◌≡◌, ◌<◌, ◌≤◌, Bool, OnOk};
 ghost use Rattle.grammar.specs.Meanings.{signed};
-ghost use Rattle.grammar.specs.Reading.{first};
 ghost use Rattle.grammar.specs.Trees.{MeasureTree};
-ghost use Rattle.criteria.specs.States.{Balanced, Follows, view};
+ghost use Rattle.criteria.specs.States.{AtToken, Balanced, Does, Follows, view};
 ghost use Rattle.criteria.specs.Ways.{arguments_way, call_way, ending_way, kept_bound, measure_way, numeral_way, variable_way};
 
 use super::super::fault::{Breach, Rule};
@@ -27,9 +25,8 @@ fn signed(sign: Sign, magnitude: u64) -> i64
 impl<'t> Reader<'t> {
     // The token at hand is this numeral.
     fn numeral(&mut self, sign: Sign, magnitude: u64) -> Result<Operand, Breach>
-        requires { is_stop (first (view self.old).spots).tok ≡ false }
-        ensures answer { Follows (numeral_way self.old.scope.now sign magnitude) (view self.old) result (view self.new) }
-        ensures balance { OnOk result (Balanced self.old self.new) }
+        requires { AtToken self.old }
+        ensures { Does (numeral_way self.old.scope.now sign magnitude) self.old result self.new }
     {
         if magnitude > LARGEST_NUMERAL {
             return Err(self.breach(Rule::Limit));
@@ -45,9 +42,8 @@ impl<'t> Reader<'t> {
 
     // The token at hand is the variable of this name.
     fn variable(&mut self, name: &[u8]) -> Result<Operand, Breach>
-        requires { is_stop (first (view self.old).spots).tok ≡ false }
-        ensures answer { Follows (variable_way self.old.scope.now name.now) (view self.old) result (view self.new) }
-        ensures balance { OnOk result (Balanced self.old self.new) }
+        requires { AtToken self.old }
+        ensures { Does (variable_way self.old.scope.now name.now) self.old result self.new }
     {
         let scope = self.scope;
         let Some(column) = scope.header.column(name) else {
@@ -81,8 +77,7 @@ impl<'t> Reader<'t> {
     #[cycle(arguments_call_measure_one_argument_two_arguments_window_argument)]
     fn one_argument(&mut self, u: Unary, left: usize, inside: bool) -> Result<Call, Breach>
         requires { 0 < left }
-        ensures answer { Follows (arguments_way self.old.scope.now (Function.Unary u) left inside) (view self.old) result (view self.new) }
-        ensures balance { OnOk result (Balanced self.old self.new) }
+        ensures { Does (arguments_way self.old.scope.now (Function.Unary u) left inside) self.old result self.new }
     {
         let argument = self.measure(left - 1, inside)?;
         Ok(Call {
@@ -94,8 +89,7 @@ impl<'t> Reader<'t> {
     #[cycle(arguments_call_measure_one_argument_two_arguments_window_argument)]
     fn two_arguments(&mut self, b: Binary, left: usize, inside: bool) -> Result<Call, Breach>
         requires { 0 < left }
-        ensures answer { Follows (arguments_way self.old.scope.now (Function.Binary b) left inside) (view self.old) result (view self.new) }
-        ensures balance { OnOk result (Balanced self.old self.new) }
+        ensures { Does (arguments_way self.old.scope.now (Function.Binary b) left inside) self.old result self.new }
     {
         let first = self.measure(left - 1, inside)?;
         self.punctuation(Punctuation::Comma)?;
@@ -124,8 +118,7 @@ impl<'t> Reader<'t> {
     #[cycle(arguments_call_measure_one_argument_two_arguments_window_argument)]
     fn arguments(&mut self, function: Function, left: usize, inside: bool) -> Result<Call, Breach>
         requires { 0 < left }
-        ensures answer { Follows (arguments_way self.old.scope.now function left inside) (view self.old) result (view self.new) }
-        ensures balance { OnOk result (Balanced self.old self.new) }
+        ensures { Does (arguments_way self.old.scope.now function left inside) self.old result self.new }
     {
         match function {
             Function::Unary(u) => self.one_argument(u, left, inside),
@@ -137,9 +130,8 @@ impl<'t> Reader<'t> {
     // The token at hand is this function's name.
     #[cycle(arguments_call_measure_one_argument_two_arguments_window_argument)]
     fn call(&mut self, function: Function, left: usize, inside: bool) -> Result<Operand, Breach>
-        requires { is_stop (first (view self.old).spots).tok ≡ false }
-        ensures answer { Follows (call_way self.old.scope.now function left inside) (view self.old) result (view self.new) }
-        ensures balance { OnOk result (Balanced self.old self.new) }
+        requires { AtToken self.old }
+        ensures { Does (call_way self.old.scope.now function left inside) self.old result self.new }
     {
         let name = self.token.at();
         self.bring()?;
@@ -154,8 +146,7 @@ impl<'t> Reader<'t> {
     // A measure, where so many nestings are left. Inside a window measure no other stands.
     #[cycle(arguments_call_measure_one_argument_two_arguments_window_argument)]
     pub(super) fn measure(&mut self, left: usize, inside: bool) -> Result<Operand, Breach>
-        ensures answer { Follows (measure_way self.old.scope.now left inside) (view self.old) result (view self.new) }
-        ensures balance { OnOk result (Balanced self.old self.new) }
+        ensures { Does (measure_way self.old.scope.now left inside) self.old result self.new }
     {
         match self.token.word() {
             Word::Numeral(sign, magnitude) => self.numeral(sign, magnitude),

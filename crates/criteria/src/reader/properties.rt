@@ -1,9 +1,8 @@
 // Formulas: comparisons, prefixes, brackets and connectives.
-ghost use Rattle.std.specs.Prelude.{◌≡◌, ◌<◌, false, OnOk};
-ghost use Rattle.tokens.specs.Tokens.{is_stop};
+ghost use Rattle.std.specs.Prelude.{◌≡◌, ◌<◌, OnOk};
 ghost use Rattle.grammar.specs.Reading.{first, sign_at, sign_level};
 ghost use Rattle.grammar.specs.Trees.{MeasureTree, PropertyTree};
-ghost use Rattle.criteria.specs.States.{Balanced, Follows, View, view};
+ghost use Rattle.criteria.specs.States.{AtToken, Balanced, Does, Follows, View, view};
 ghost use Rattle.criteria.specs.Ways.{Ends, bracketed_way, change_comparison_way, columns_of, compared_way, comparison_way, index_way, lead_way, link_way, linked_way, links_way, next_lead_way, operand_way, prefix_sign_way, prefixed_way, tier_way};
 
 use super::super::fault::{Breach, Rule};
@@ -33,8 +32,7 @@ impl<'t> Reader<'t> {
     }
 
     fn comparison(&mut self, left: usize) -> Result<usize, Breach>
-        ensures answer { Follows (comparison_way self.old.scope.now left) (view self.old) result (view self.new) }
-        ensures balance { OnOk result (Balanced self.old self.new) }
+        ensures { Does (comparison_way self.old.scope.now left) self.old result self.new }
     {
         let first = self.measure(left, false)?;
         self.compared(left, Quantity::Value, first.at)
@@ -42,9 +40,8 @@ impl<'t> Reader<'t> {
 
     // The token at hand is d.
     fn change_comparison(&mut self, left: usize) -> Result<usize, Breach>
-        requires { is_stop (first (view self.old).spots).tok ≡ false }
-        ensures answer { Follows (change_comparison_way self.old.scope.now left) (view self.old) result (view self.new) }
-        ensures balance { OnOk result (Balanced self.old self.new) }
+        requires { AtToken self.old }
+        ensures { Does (change_comparison_way self.old.scope.now left) self.old result self.new }
     {
         self.advance();
         self.opening(left)?;
@@ -55,8 +52,7 @@ impl<'t> Reader<'t> {
 
     // The index of X, behind its bracket.
     fn index(&mut self) -> Result<u64, Breach>
-        ensures answer { Follows index_way (view self.old) result (view self.new) }
-        ensures balance { OnOk result (Balanced self.old self.new) }
+        ensures { Does index_way self.old result self.new }
     {
         let Word::Numeral(Sign::Unsigned | Sign::Plus, index) = self.token.word() else {
             return Err(self.breach(Rule::Grammar));
@@ -70,8 +66,7 @@ impl<'t> Reader<'t> {
 
     // X alone, or with an index, behind its sign.
     fn next_lead(&mut self) -> Result<Prefix, Breach>
-        ensures answer { Follows next_lead_way (view self.old) result (view self.new) }
-        ensures balance { OnOk result (Balanced self.old self.new) }
+        ensures { Does next_lead_way self.old result self.new }
     {
         if !self.is_at(Punctuation::OpenWindow) {
             return Ok(Prefix::Next(1));
@@ -84,8 +79,7 @@ impl<'t> Reader<'t> {
 
     // A prefix behind its sign.
     fn lead(&mut self, sign: PrefixSign) -> Result<Prefix, Breach>
-        ensures answer { Follows (lead_way sign) (view self.old) result (view self.new) }
-        ensures balance { OnOk result (Balanced self.old self.new) }
+        ensures { Does (lead_way sign) self.old result self.new }
     {
         match sign {
             PrefixSign::Not => Ok(Prefix::Not),
@@ -97,7 +91,7 @@ impl<'t> Reader<'t> {
 
     // The sign of a prefix, which brings a part and a nesting.
     fn prefix_sign(&mut self, left: usize) -> Result<(), Breach>
-        requires { is_stop (first (view self.old).spots).tok ≡ false }
+        requires { AtToken self.old }
         ensures answer { Follows (prefix_sign_way left) (view self.old) result (view self.new) }
         ensures count { self.new.count ≡ self.old.count }
     {
@@ -112,9 +106,8 @@ impl<'t> Reader<'t> {
     // The token at hand is this prefix's sign.
     #[cycle(bracketed_formula_linked_links_operand_prefix_tier)]
     fn prefix(&mut self, left: usize, sign: PrefixSign) -> Result<usize, Breach>
-        requires { is_stop (first (view self.old).spots).tok ≡ false }
-        ensures answer { Follows (prefixed_way self.old.scope.now left sign) (view self.old) result (view self.new) }
-        ensures balance { OnOk result (Balanced self.old self.new) }
+        requires { AtToken self.old }
+        ensures { Does (prefixed_way self.old.scope.now left sign) self.old result self.new }
     {
         self.prefix_sign(left)?;
         let prefix = self.lead(sign)?;
@@ -124,8 +117,7 @@ impl<'t> Reader<'t> {
 
     #[cycle(bracketed_formula_linked_links_operand_prefix_tier)]
     fn bracketed(&mut self, left: usize) -> Result<usize, Breach>
-        ensures answer { Follows (bracketed_way self.old.scope.now left) (view self.old) result (view self.new) }
-        ensures balance { OnOk result (Balanced self.old self.new) }
+        ensures { Does (bracketed_way self.old.scope.now left) self.old result self.new }
     {
         self.opening(left)?;
         let at = self.formula(left - 1)?;
@@ -136,8 +128,7 @@ impl<'t> Reader<'t> {
     // What a prefix can stand before.
     #[cycle(bracketed_formula_linked_links_operand_prefix_tier)]
     fn operand(&mut self, left: usize) -> Result<usize, Breach>
-        ensures answer { Follows (operand_way self.old.scope.now left) (view self.old) result (view self.new) }
-        ensures balance { OnOk result (Balanced self.old self.new) }
+        ensures { Does (operand_way self.old.scope.now left) self.old result self.new }
     {
         match self.token.word() {
             Word::Punctuation(_) => self.bracketed(left),
@@ -149,8 +140,7 @@ impl<'t> Reader<'t> {
 
     // A connective behind its sign.
     fn link(&mut self, sign: ConnectiveSign) -> Result<Connective, Breach>
-        ensures answer { Follows (link_way sign) (view self.old) result (view self.new) }
-        ensures balance { OnOk result (Balanced self.old self.new) }
+        ensures { Does (link_way sign) self.old result self.new }
     {
         match sign {
             ConnectiveSign::And => Ok(Connective::And),
@@ -180,7 +170,7 @@ impl<'t> Reader<'t> {
         sign: ConnectiveSign,
         left_at: usize,
     ) -> Result<usize, Breach>
-        requires { is_stop (first (view self.old).spots).tok ≡ false }
+        requires { AtToken self.old }
         ensures answer { (p : PropertyTree) → Follows (linked_way self.old.scope.now left level p sign left_at) (view self.old) result (view self.new) }
         ensures balance { OnOk result (Balanced self.old self.new) }
     {
@@ -208,8 +198,7 @@ impl<'t> Reader<'t> {
     // What is bound as tightly as this level.
     #[cycle(bracketed_formula_linked_links_operand_prefix_tier)]
     fn tier(&mut self, level: usize, left: usize) -> Result<usize, Breach>
-        ensures answer { Follows (tier_way self.old.scope.now left level) (view self.old) result (view self.new) }
-        ensures balance { OnOk result (Balanced self.old self.new) }
+        ensures { Does (tier_way self.old.scope.now left level) self.old result self.new }
     {
         if level == 0 {
             return self.operand(left);
@@ -221,8 +210,7 @@ impl<'t> Reader<'t> {
     // A whole formula, where so many nestings are left.
     #[cycle(bracketed_formula_linked_links_operand_prefix_tier)]
     pub(super) fn formula(&mut self, left: usize) -> Result<usize, Breach>
-        ensures answer { Follows (tier_way self.old.scope.now left 5) (view self.old) result (view self.new) }
-        ensures balance { OnOk result (Balanced self.old self.new) }
+        ensures { Does (tier_way self.old.scope.now left 5) self.old result self.new }
     {
         self.tier(LOOSEST, left)
     }

@@ -1,6 +1,5 @@
 // Windows: two numerals between brackets.
-ghost use Rattle.std.specs.Prelude.{OnOk};
-ghost use Rattle.criteria.specs.States.{Balanced, Follows, view};
+ghost use Rattle.criteria.specs.States.{Does};
 ghost use Rattle.criteria.specs.Ways.{moment_way, window_behind_way, window_way};
 
 use super::super::fault::{Breach, Rule};
@@ -14,8 +13,7 @@ pub(super) const LARGEST_NUMERAL: u64 = 1_000_000_000;
 impl<'t> Reader<'t> {
     // A numeral of a window, no less than the one before it.
     fn moment(&mut self, least: u64) -> Result<u64, Breach>
-        ensures answer { Follows (moment_way least) (view self.old) result (view self.new) }
-        ensures balance { OnOk result (Balanced self.old self.new) }
+        ensures { Does (moment_way least) self.old result self.new }
     {
         let Word::Numeral(Sign::Unsigned, moment) = self.token.word() else {
             return Err(self.breach(Rule::Grammar));
@@ -32,8 +30,7 @@ impl<'t> Reader<'t> {
 
     // A window behind its first numeral.
     fn window_behind(&mut self, first: u64) -> Result<Window, Breach>
-        ensures answer { Follows (window_behind_way first) (view self.old) result (view self.new) }
-        ensures balance { OnOk result (Balanced self.old self.new) }
+        ensures { Does (window_behind_way first) self.old result self.new }
     {
         self.punctuation(Punctuation::Comma)?;
         let last = self.moment(first)?;
@@ -42,8 +39,7 @@ impl<'t> Reader<'t> {
     }
 
     pub(super) fn window(&mut self) -> Result<Window, Breach>
-        ensures answer { Follows window_way (view self.old) result (view self.new) }
-        ensures balance { OnOk result (Balanced self.old self.new) }
+        ensures { Does window_way self.old result self.new }
     {
         self.punctuation(Punctuation::OpenWindow)?;
         let first = self.moment(0)?;

@@ -4,13 +4,13 @@ use Rattle.criteria.proofs.Comparisons.{change_broken, change_read, change_unmea
 use Rattle.criteria.proofs.Passing.{balanced_on, balanced_through}
 use Rattle.criteria.proofs.reader.Reader.change_comparison.Goals as goal
 
-pub returns-in_err-first-clause-answer : goal.returns-in_err-first-clause-answer
-returns-in_err-first-clause-answer c =
+pub returns-in_err-first : goal.returns-in_err-first
+returns-in_err-first c =
     let exit = err_from_is_err_and c.from_residual-in_err-first.result c.from_residual-in_err-first.ensures.1 in
     let start = view c.args.self.now in
     let inner = view c.opening.new.self in
     let after = view c.measure.new.self in
-    rw (exit.1, exit.2) (change_unmeasured c.args.left start inner after after c.in_err-first.field-0.0 (opened c.args.left start (view c.advance.new.self) inner c.advance.ensures.after c.in_ok-opening.ensures.answer) c.in_err-first.ensures.answer)
+    rw (exit.1, exit.2) (record { answer = change_unmeasured c.args.left start inner after after c.in_err-first.field-0.0 (opened c.args.left start (view c.advance.new.self) inner c.advance.ensures.after c.in_ok-opening.ensures.answer) c.in_err-first.ensures.answer; balance = tt })
 
 pub returns-in_err-punctuation : goal.returns-in_err-punctuation
 returns-in_err-punctuation c =
