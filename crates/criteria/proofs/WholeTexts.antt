@@ -50,16 +50,16 @@ drop_replicate (suc k) zero x = ap (λ (m : ℕ). replicate m x) (sym (zero-sub 
 drop_replicate (suc k) (suc n) x = drop_replicate k n x ∙ ap (λ (m : ℕ). replicate m x) (sym (suc-sub-suc n k))
 
 -- what stands in the reader once a whole text is read
-pub record Complete (scope : Scope) (w : View) : Type 0 where
-  pub lawful : is_formula (length (names scope.header)) scope.magnitude w.parts ≡ true
+pub record Complete (w : View) : Type 0 where
+  pub lawful : is_formula (length (names w.scope.header)) w.scope.magnitude w.parts ≡ true
   pub rest : w.behind ≡ replicate (128 - length w.parts) blank
 
-pub whole_text : (scope : Scope) (text : List ℕ) (x : ℕ) (w : View) → Follows (tier_way scope 32 5) (unread text) (Ok x) w → is_stop (first w.spots).tok ≡ true → Complete scope w
+pub whole_text : (scope : Scope) (text : List ℕ) (x : ℕ) (w : View) → Follows (tier_way scope 32 5) (unread scope text) (Ok x) w → is_stop (first w.spots).tok ≡ true → Complete w
 whole_text scope text x w e stops =
-    let p = passed (tier_way scope 32 5) (unread text) x w e in
+    let p = passed (tier_way scope 32 5) (unread scope text) x w e in
     let read = text_read (rules_of scope) (spots text) p.reads stops in
     let parts : w.parts ≡ parts_of (property_of (columns_of scope) p.found) = p.grew.parts in
     record {
-      lawful = ap (is_formula (length (names scope.header)) scope.magnitude) parts ∙ read_formula text (names scope.header) scope.magnitude p.found w.brought w.spots read;
+      lawful = ap (λ (s : Scope). is_formula (length (names s.header)) s.magnitude w.parts) p.grew.scope ∙ ap (is_formula (length (names scope.header)) scope.magnitude) parts ∙ read_formula text (names scope.header) scope.magnitude p.found w.brought w.spots read;
       rest = p.grew.behind ∙ drop_replicate (length (parts_of (property_of (columns_of scope) p.found))) 128 blank ∙ ap (λ (ps : List Part). replicate (128 - length ps) blank) (sym parts);
     }

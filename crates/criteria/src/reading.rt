@@ -7,7 +7,7 @@ ghost use Rattle.criteria.specs.Told.{written};
 use super::fault::CriterionFault;
 use super::formula::Formula;
 use super::reader::read_text;
-use super::scope::Scope;
+use super::scope::{LARGEST_MAGNITUDE, Scope};
 use records::Fields;
 
 // The most bytes of a text and of a run file.
@@ -15,22 +15,18 @@ const LONGEST_TEXT: usize = 4_096;
 
 const LARGEST_FILE: usize = 65_536;
 
-// The largest magnitude that a criterion is read for.
-const LARGEST_MAGNITUDE: i64 = 1_000_000_000;
-
 fn is_lawful_length(text: &[u8], file: &[u8]) -> bool
     ensures { result ≡ lawful_length text.now file.now }
 {
-    1 <= text.len() && text.len() <= LONGEST_TEXT && file.len() <= LARGEST_FILE
+    (1..=LONGEST_TEXT).contains(&text.len()) && file.len() <= LARGEST_FILE
 }
 
 fn lawful_magnitude(magnitude: i64) -> Option<u64>
     ensures { result ≡ lawful_magnitude magnitude }
 {
-    if magnitude < 1 || magnitude > LARGEST_MAGNITUDE {
-        return None;
-    }
-    Some(magnitude as u64)
+    u64::try_from(magnitude)
+        .ok()
+        .filter(|magnitude| (1..=LARGEST_MAGNITUDE).contains(magnitude))
 }
 
 // Reads a criterion for the header of a run file and a magnitude into the caller's place, or refuses it and changes nothing.

@@ -3,6 +3,8 @@ use Rattle.std.proofs.Common.{◌≡◌, ℕ, zero, suc, ◌<◌, ◌≤◌, Boo
 use Rattle.std.specs.List.{AllByRecursion}
 use Rattle.std.proofs.lemmas.Bool.Decides.{nat_tests}
 use Rattle.parts.specs.Limits.{lawful, lawful_measure, lawful_prefix, lawful_connective, lawful_window}
+use Rattle.parts.specs.declared.kinds.Quantity.{Quantity}
+use Rattle.parts.specs.declared.kinds.Quantity.TheVariants.{Value, Change}
 use Rattle.tokens.specs.Tokens.{Tok}
 use Rattle.tokens.specs.declared.words.Sign.{Sign}
 use Rattle.tokens.specs.declared.words.Sign.TheVariants.{Unsigned, Plus, Minus}
@@ -88,14 +90,14 @@ module _ (columns : Columns) (largest width : ℕ) (known : (name : List ℕ) (v
   link_lawful iff h = refl
   link_lawful (until a b) h = window_lawful a b h.1
 
-  left_lawful : {ts : List Tok} {m : MeasureTree} (d : ℕ) (changes : Bool) → MeasureText false ts m → Kept (left_steps rules d changes m) → lawful_measure width largest false (measure_of columns m) ≡ true
-  left_lawful d false t h = measure_lawful d t h
-  left_lawful {m = m} d true t h = measure_lawful (suc d) t (all_split (Keeps rules) (measure_steps rules (suc d) m) _ h.1.1).0
+  left_lawful : {ts : List Tok} {m : MeasureTree} (d : ℕ) (q : Quantity) → MeasureText false ts m → Kept (left_steps rules d q m) → lawful_measure width largest false (measure_of columns m) ≡ true
+  left_lawful d Value t h = measure_lawful d t h
+  left_lawful {m = m} d Change t h = measure_lawful (suc d) t (all_split (Keeps rules) (measure_steps rules (suc d) m) _ h.1.1).0
 
   pub property_lawful : {level : ℕ} {ts : List Tok} {p : PropertyTree} (d : ℕ) → PropertyText level ts p → Kept (property_steps rules d p) → lawful width largest (property_of columns p) ≡ true
-  property_lawful k (a_comparison {d} {c} {ms} {ns} {m} {n} t u) h =
-      let parts = all_split (Keeps rules) (left_steps rules k d m) _ h in
-      and_intro _ _ (left_lawful k d t parts.0) (measure_lawful k u parts.1.1)
+  property_lawful k (a_comparison {q} {c} {ms} {ns} {m} {n} t u) h =
+      let parts = all_split (Keeps rules) (left_steps rules k q m) _ h in
+      and_intro _ _ (left_lawful k q t parts.0) (measure_lawful k u parts.1.1)
   property_lawful d (a_prefix {l} {ps} {p} w t) h =
       let parts = all_split (Keeps rules) (lead_steps rules (suc d) l) (property_steps rules (suc d) p) h in
       and_intro _ _ (lead_lawful (suc d) l parts.0) (property_lawful (suc d) t parts.1)

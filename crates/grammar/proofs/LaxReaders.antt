@@ -1,6 +1,8 @@
 -- The readers with lax rules, which only limit parts and nesting, and no less than the rules at hand, follow those with the rules at hand.
 use Rattle.std.proofs.Common.{◌≡◌, ℕ, zero, suc, pred, ◌≤◌, Bool, true, false, cond, ◌&&◌, ltb, leb, List, [], ◌∷◌, Some, None, Option, refl, ap, ap₂, arith, ltb-true, lt-ltb, le-leb, leb-true}
 use Rattle.parts.specs.declared.kinds.Comparator.{Comparator}
+use Rattle.parts.specs.declared.kinds.Quantity.{Quantity}
+use Rattle.parts.specs.declared.kinds.Quantity.TheVariants.{Value, Change}
 use Rattle.tokens.specs.Tokens.{Tok, Spot, mark, change, comparator, unary, binary, statistic, prefix, connective, numeral, variable, stray, stop}
 use Rattle.tokens.specs.declared.words.ConnectiveSign.{ConnectiveSign}
 use Rattle.tokens.specs.declared.words.ConnectiveSign.TheVariants as connectives
@@ -157,22 +159,22 @@ module _ (rules : Rules) (parts nesting : ℕ) (roomy : rules.parts ≤ parts) w
   measure_follows (suc left) zero h inside n s = absurd (omega arith)
   measure_follows (suc left) (suc left') h inside n s = measure_by_token (suc left) (suc left') (measure rules left) (measure (lax parts nesting) left') inside h (λ _ b. measure_follows left left' (omega arith) b) n s
 
-  compared_follows : (left left' : ℕ) → left ≤ left' → (changes : Bool) (l : MeasureTree) → FollowsReader (compared (lax parts nesting) left' changes l) (compared rules left changes l)
-  compared_follows left left' h changes l n [] = by_token_follows (λ k t. compared_by (lax parts nesting) left' changes l (comparator_of k) n t) refuse_follows
-  compared_follows left left' h changes l n (x ∷ s) = by_token_follows (λ k t. compared_by (lax parts nesting) left' changes l (comparator_of k) n t) (by (comparator_of x.tok))
+  compared_follows : (left left' : ℕ) → left ≤ left' → (q : Quantity) (l : MeasureTree) → FollowsReader (compared (lax parts nesting) left' q l) (compared rules left q l)
+  compared_follows left left' h q l n [] = by_token_follows (λ k t. compared_by (lax parts nesting) left' q l (comparator_of k) n t) refuse_follows
+  compared_follows left left' h q l n (x ∷ s) = by_token_follows (λ k t. compared_by (lax parts nesting) left' q l (comparator_of k) n t) (by (comparator_of x.tok))
     where
-      by : (o : Option Comparator) → Follows (compared_by (lax parts nesting) left' changes l o n) (x ∷ s) (compared_by rules left changes l o n (x ∷ s))
+      by : (o : Option Comparator) → Follows (compared_by (lax parts nesting) left' q l o n) (x ∷ s) (compared_by rules left q l o n (x ∷ s))
       by None = refuse_follows
       by (Some c) = brought_follows _ _ n (x ∷ s) (then_follows (behind_follows (measure_follows left left' h false (suc n) s)) (λ r n s. got_follows))
 
   pub comparison_follows : (left left' : ℕ) → left ≤ left' → FollowsReader (comparison (lax parts nesting) left') (comparison rules left)
-  comparison_follows left left' h n s = then_follows (measure_follows left left' h false n s) (λ m n s. compared_follows left left' h false m n s)
+  comparison_follows left left' h n s = then_follows (measure_follows left left' h false n s) (λ m n s. compared_follows left left' h Value m n s)
 
   change_follows : (left left' : ℕ) → left ≤ left' → (n : ℕ) (x : Spot) (s : List Spot) → Follows (change_comparison (lax parts nesting) left' n) (x ∷ s) (change_comparison rules left n (x ∷ s))
   change_follows left left' h n x s =
       then_follows (behind_follows (opening_follows left left' h n s)) (λ _ n s.
       then_follows (measure_follows (pred left) (pred left') (omega arith) false n s) (λ m n s.
-      then_follows (punctuation_follows Close n s) (λ _ n s. compared_follows left left' h true m n s)))
+      then_follows (punctuation_follows Close n s) (λ _ n s. compared_follows left left' h Change m n s)))
 
   prefix_sign_follows : (left left' : ℕ) → left ≤ left' → (n : ℕ) (x : Spot) (s : List Spot) → Follows (prefix_sign (lax parts nesting) left' n) (x ∷ s) (prefix_sign rules left n (x ∷ s))
   prefix_sign_follows left left' h n x s = rule_follows (ltb 0 left && leb (suc n) rules.parts) 6 _ _ (λ z. omega arith) (λ e. let b = both_true (ltb 0 left) (leb (suc n) rules.parts) e in passing_follows _ (ap₂ ◌&&◌ (more_left left left' h b.0) (room (suc n) b.1)) taken_follows)

@@ -1,5 +1,5 @@
 -- A formula can be written as deeply nested as a tree of it is, or less.
-use Rattle.std.proofs.Common.{◌≡◌, ℕ, suc, pred, ◌+◌, ◌≤◌, max, Bool, true, false, leb, List, ◌∷◌, ◌++◌, refl, ap, ◌∙◌, arith}
+use Rattle.std.proofs.Common.{◌≡◌, ℕ, suc, pred, ◌+◌, ◌≤◌, max, true, leb, List, ◌∷◌, ◌++◌, refl, ap, ◌∙◌, arith}
 use Rattle.std.specs.List.{AllByRecursion}
 use Rattle.std.proofs.lemmas.Bool.Decides.{nat_tests}
 use Rattle.parts.specs.Formulas as formula
@@ -7,6 +7,8 @@ use Rattle.parts.specs.Formulas.{Property}
 use Rattle.parts.specs.Nesting.{measure_nesting, left_nesting, connective_level, bracket_nesting, nesting_at}
 use Rattle.parts.specs.declared.kinds.Connective.{Connective}
 use Rattle.parts.specs.declared.kinds.Connective.TheVariants as connectives
+use Rattle.parts.specs.declared.kinds.Quantity.{Quantity}
+use Rattle.parts.specs.declared.kinds.Quantity.TheVariants.{Value, Change}
 use Rattle.tokens.specs.Tokens.{Tok}
 use Rattle.grammar.specs.Layers.{PropertyText, a_comparison, a_prefix, a_bracket, tighter, a_link, link_level}
 use Rattle.grammar.specs.Meanings.{Columns, measure_of, connective_of, property_of}
@@ -70,9 +72,9 @@ module _ (rules : Rules) (columns : Columns) where
       let inner = measure_nested m (suc d) h.1.0.1 both.1 in
       omega arith
 
-  left_nested : (changes : Bool) (m : MeasureTree) (d : ℕ) → d ≤ rules.nesting → Deep (left_steps rules d changes m) → d + left_nesting changes (measure_of columns m) ≤ rules.nesting
-  left_nested false m d r h = measure_nested m d r h
-  left_nested true m d r h =
+  left_nested : (q : Quantity) (m : MeasureTree) (d : ℕ) → d ≤ rules.nesting → Deep (left_steps rules d q m) → d + left_nesting q (measure_of columns m) ≤ rules.nesting
+  left_nested Value m d r h = measure_nested m d r h
+  left_nested Change m d r h =
       let inner = measure_nested m (suc d) h.1.0.1 (all_split (Keeps rules) (measure_steps rules (suc d) m) _ h.1.1).0 in
       omega arith
 
@@ -84,9 +86,9 @@ module _ (rules : Rules) (columns : Columns) where
   lead_nested d (always a b) h = h.0.1
 
   pub property_nested : {level : ℕ} {ts : List Tok} {p : PropertyTree} (k : ℕ) → k ≤ rules.nesting → PropertyText level ts p → Deep (property_steps rules k p) → k + nesting_at level (property_of columns p) ≤ rules.nesting
-  property_nested k r (a_comparison {d} {c} {ms} {ns} {m} {n} t u) h =
-      let parts = all_split (Keeps rules) (left_steps rules k d m) _ h in
-      let left = left_nested d m k r parts.0 in
+  property_nested k r (a_comparison {q} {c} {ms} {ns} {m} {n} t u) h =
+      let parts = all_split (Keeps rules) (left_steps rules k q m) _ h in
+      let left = left_nested q m k r parts.0 in
       let right = measure_nested n k r parts.1.1 in
       omega arith
   property_nested k r (a_prefix {l} {ps} {p} w t) h =

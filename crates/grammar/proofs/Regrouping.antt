@@ -1,6 +1,7 @@
 -- The layered grammar has the texts of the published one: what it relates to a tree is derived, and every derived text has a tree, its operands grouped anew. Assumes nothing.
 use Rattle.std.proofs.Common.{ℕ, zero, suc, ◌≤◌, true, false, List, ◌++◌, ⊎_elim, append_assoc, arith}
 use Rattle.std.proofs.lemmas.Bool.{cases_eq}
+use Rattle.parts.specs.declared.kinds.Quantity.TheVariants.{Value, Change}
 use Rattle.tokens.specs.Tokens.{Tok}
 use Rattle.tokens.specs.declared.words.Sign.TheVariants.{Unsigned, Plus, Minus}
 use Rattle.grammar.specs.Derivations as published
@@ -38,8 +39,8 @@ linked iff p q = published.equivalence p q
 linked (until a b) p q = published.until a b p q
 
 derived_at : {level : ℕ} {ts : List Tok} {p : PropertyTree} → PropertyText level ts p → LogicProperty ts
-derived_at (a_comparison {d = false} {c = c} m n) = published.comparison c (temporal m) (temporal n)
-derived_at (a_comparison {d = true} {c = c} m n) = published.change_comparison c (temporal m) (temporal n)
+derived_at (a_comparison {q = Value} {c = c} m n) = published.comparison c (temporal m) (temporal n)
+derived_at (a_comparison {q = Change} {c = c} m n) = published.change_comparison c (temporal m) (temporal n)
 derived_at (a_prefix {l = l} t p) = led l t (derived_at p)
 derived_at (a_bracket p) = published.bracket (derived_at p)
 derived_at (tighter p) = derived_at p
@@ -118,8 +119,8 @@ join l {ps = ps} p (a_link {l = k} {ps = qs} {qs = ks} e q r) =
     (join k (join l p q).1 r)
 
 grouped : {ts : List Tok} → LogicProperty ts → Grouped loosest ts
-grouped (published.comparison c m n) = (_, looser loosest (a_comparison {d = false} {c = c} (measure_tree m).1 (measure_tree n).1))
-grouped (published.change_comparison c m n) = (_, looser loosest (a_comparison {d = true} {c = c} (measure_tree m).1 (measure_tree n).1))
+grouped (published.comparison c m n) = (_, looser loosest (a_comparison {q = Value} {c = c} (measure_tree m).1 (measure_tree n).1))
+grouped (published.change_comparison c m n) = (_, looser loosest (a_comparison {q = Change} {c = c} (measure_tree m).1 (measure_tree n).1))
 grouped (published.negation p) = prefix_left negation tt (grouped p).1
 grouped (published.conjunction p q) = join and (grouped p).1 (grouped q).1
 grouped (published.disjunction p q) = join or (grouped p).1 (grouped q).1

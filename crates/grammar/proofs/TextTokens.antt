@@ -1,6 +1,8 @@
 -- The tokens of a text are those of its tree's steps, and none of them is the end of the text.
 use Rattle.std.proofs.Common.{◌≡◌, ℕ, suc, Bool, true, false, List, [], ◌∷◌, ◌++◌, sym, refl, ap, ◌∙◌, ap₂, arith}
 use mathlib.Core.List.{map-append}
+use Rattle.parts.specs.declared.kinds.Quantity.{Quantity}
+use Rattle.parts.specs.declared.kinds.Quantity.TheVariants.{Value, Change}
 use Rattle.tokens.specs.Tokens.{Tok, mark, change, comparator, is_stop}
 use Rattle.tokens.specs.Tokens as token
 use Rattle.tokens.specs.declared.words.Punctuation.TheVariants.{Open, Comma}
@@ -42,12 +44,12 @@ measure_tokens rules d (a_binary {b} {m} {n} t u) =
 measure_tokens rules d (a_statistic {s} {a} {b} {m} t) =
     after_token (token.statistic s) (after_token (mark Open) (joined_tokens (window_steps rules a b ++ measure_steps rules (suc d) m) _ (joined_tokens (window_steps rules a b) (measure_steps rules (suc d) m) refl (measure_tokens rules (suc d) t)) refl))
 
-left_tokens : {ts : List Tok} (rules : Rules) (d : ℕ) (changes : Bool) (m : MeasureTree) → MeasureText false ts m → step_tokens (left_steps rules d changes m) ≡ change_tokens changes ts
-left_tokens rules d false m t = measure_tokens rules d t
-left_tokens rules d true m t = after_token change (after_token (mark Open) (joined_tokens (measure_steps rules (suc d) m) _ (measure_tokens rules (suc d) t) refl))
+left_tokens : {ts : List Tok} (rules : Rules) (d : ℕ) (q : Quantity) (m : MeasureTree) → MeasureText false ts m → step_tokens (left_steps rules d q m) ≡ change_tokens q ts
+left_tokens rules d Value m t = measure_tokens rules d t
+left_tokens rules d Change m t = after_token change (after_token (mark Open) (joined_tokens (measure_steps rules (suc d) m) _ (measure_tokens rules (suc d) t) refl))
 
 pub property_tokens : {level : ℕ} {ts : List Tok} {p : PropertyTree} (rules : Rules) (d : ℕ) → PropertyText level ts p → step_tokens (property_steps rules d p) ≡ ts
-property_tokens rules d (a_comparison {d = changes} {c} {m} {n} t u) = joined_tokens (left_steps rules d changes m) (bringing (comparator c) ∷ measure_steps rules d n) (left_tokens rules d changes m t) (after_token (comparator c) (measure_tokens rules d u))
+property_tokens rules d (a_comparison {q} {c} {m} {n} t u) = joined_tokens (left_steps rules d q m) (bringing (comparator c) ∷ measure_steps rules d n) (left_tokens rules d q m t) (after_token (comparator c) (measure_tokens rules d u))
 property_tokens rules d (a_prefix {l} {p} h t) = joined_tokens (lead_steps rules (suc d) l) (property_steps rules (suc d) p) (tokens_of_lead rules (suc d) l) (property_tokens rules (suc d) t)
 property_tokens rules d (a_bracket {p} t) = after_token (mark Open) (joined_tokens (property_steps rules (suc d) p) _ (property_tokens rules (suc d) t) refl)
 property_tokens rules d (tighter t) = property_tokens rules d t
@@ -92,12 +94,12 @@ measure_has_tokens (a_unary t) = more (token_is _ refl) (bracketed (measure_has_
 measure_has_tokens (a_binary t u) = more (token_is _ refl) (bracketed (both (measure_has_tokens t) (more (token_is _ refl) (measure_has_tokens u))))
 measure_has_tokens (a_statistic {a} {b} t) = more (token_is _ refl) (bracketed (both (window_has_tokens a b) (measure_has_tokens t)))
 
-left_has_tokens : {ts : List Tok} (changes : Bool) → Tokens ts → Tokens (change_tokens changes ts)
-left_has_tokens false h = h
-left_has_tokens true h = more (token_is _ refl) (bracketed h)
+left_has_tokens : {ts : List Tok} (q : Quantity) → Tokens ts → Tokens (change_tokens q ts)
+left_has_tokens Value h = h
+left_has_tokens Change h = more (token_is _ refl) (bracketed h)
 
 pub property_has_tokens : {level : ℕ} {ts : List Tok} {p : PropertyTree} → PropertyText level ts p → Tokens ts
-property_has_tokens (a_comparison {d} t u) = both (left_has_tokens d (measure_has_tokens t)) (more (token_is _ refl) (measure_has_tokens u))
+property_has_tokens (a_comparison {q} t u) = both (left_has_tokens q (measure_has_tokens t)) (more (token_is _ refl) (measure_has_tokens u))
 property_has_tokens (a_prefix {l} h t) = both (lead_has_tokens l) (property_has_tokens t)
 property_has_tokens (a_bracket t) = bracketed (property_has_tokens t)
 property_has_tokens (tighter t) = property_has_tokens t

@@ -29,7 +29,7 @@ Meant ns i (Variable v) = slice_get ns i ≡ Some (measure (variable v))
 Meant ns i (Unary u) = (m : Measure) × OneOperand ns i (measure m) (measure (unary u m))
 Meant ns i (Binary b left) = (m : Measure) × (n : Measure) × TwoOperands ns i left (measure m) (measure n) (measure (binary b m n))
 Meant ns i (Over s w) = (m : Measure) × OneOperand ns i (measure m) (measure (over s w m))
-Meant ns i (Compare c d left) = (m : Measure) × (n : Measure) × TwoOperands ns i left (measure m) (measure n) (property (compare c d m n))
+Meant ns i (Compare c q left) = (m : Measure) × (n : Measure) × TwoOperands ns i left (measure m) (measure n) (property (compare c q m n))
 Meant ns i (Prefix x) = (p : Property) × OneOperand ns i (property p) (property (prefixed x p))
 Meant ns i (Connective c left) = (p : Property) × (q : Property) × TwoOperands ns i left (property p) (property q) (property (joined c p q))
 
@@ -106,7 +106,7 @@ module _ (ns more : List Node) (x : Node) where
   meant_here (Over s w) e =
       let o = mapped_some (as_measure (last_node ns)) e in
       (o.0, rw (← o.2) (one_here (measure o.0) (as_measure_some (last_node ns) o.1)))
-  meant_here (Compare c d left) e =
+  meant_here (Compare c q left) e =
       let o = mapped_some (measures_at ns left) e in
       (o.0.0, o.0.1, rw (← o.2) (measures_here left o.0 o.1))
   meant_here (Prefix y) e =

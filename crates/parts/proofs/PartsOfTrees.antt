@@ -20,7 +20,7 @@ measure_nodes (binary b m n) = (measure_nodes m ++ measure_nodes n) ++ (measure 
 measure_nodes (over s w m) = measure_nodes m ++ (measure (over s w m) ∷ [])
 
 abbrev pub property_nodes : Property → List Node
-property_nodes (compare c d m n) = (measure_nodes m ++ measure_nodes n) ++ (property (compare c d m n) ∷ [])
+property_nodes (compare c q m n) = (measure_nodes m ++ measure_nodes n) ++ (property (compare c q m n) ∷ [])
 property_nodes (prefixed x p) = property_nodes p ++ (property (prefixed x p) ∷ [])
 property_nodes (joined c p q) = (property_nodes p ++ property_nodes q) ++ (property (joined c p q) ∷ [])
 
@@ -35,7 +35,7 @@ ends (measure (variable v)) = ([], refl)
 ends (measure (unary u m)) = (measure_nodes m, refl)
 ends (measure (binary b m n)) = (measure_nodes m ++ measure_nodes n, refl)
 ends (measure (over s w m)) = (measure_nodes m, refl)
-ends (property (compare c d m n)) = (measure_nodes m ++ measure_nodes n, refl)
+ends (property (compare c q m n)) = (measure_nodes m ++ measure_nodes n, refl)
 ends (property (prefixed x p)) = (property_nodes p, refl)
 ends (property (joined c p q)) = (property_nodes p ++ property_nodes q, refl)
 
@@ -47,7 +47,7 @@ length_measure_nodes (binary b m n) = simp length-append (let h = length_measure
 length_measure_nodes (over s w m) = simp length-append (let h = length_measure_nodes m in omega arith)
 
 length_property_nodes : (p : Property) → length (property_nodes p) ≡ property_size p
-length_property_nodes (compare c d m n) = simp length-append (let h = length_measure_nodes m in let k = length_measure_nodes n in omega arith)
+length_property_nodes (compare c q m n) = simp length-append (let h = length_measure_nodes m in let k = length_measure_nodes n in omega arith)
 length_property_nodes (prefixed x p) = simp length-append (let h = length_property_nodes p in omega arith)
 length_property_nodes (joined c p q) = simp length-append (let h = length_property_nodes p in let k = length_property_nodes q in omega arith)
 
@@ -119,10 +119,10 @@ measure_yields (binary b m n) start =
 measure_yields (over s w m) start = part_yields (part.Over s w) _ (measure_yields m start) (λ ns e. rw (last_is ns (measure m)))
 
 property_yields : (p : Property) (start : ℕ) → Yields start (property_parts start p) (property_nodes p)
-property_yields (compare c d m n) start =
-    part_yields (part.Compare c d (start + measure_size m - 1)) _
+property_yields (compare c q m n) start =
+    part_yields (part.Compare c q (start + measure_size m - 1)) _
     (both_yield (length_measure_nodes m) (measure_yields m start) (measure_yields n (start + measure_size m)))
-    (λ ns e. of_measures ns e (part.Compare c d) (λ m n. property (compare c d m n)) m n (λ ks left. refl))
+    (λ ns e. of_measures ns e (part.Compare c q) (λ m n. property (compare c q m n)) m n (λ ks left. refl))
 property_yields (prefixed x p) start = part_yields (part.Prefix x) _ (property_yields p start) (λ ns e. rw (last_is ns (property p)))
 property_yields (joined c p q) start =
     part_yields (part.Connective c (start + property_size p - 1)) _

@@ -18,7 +18,7 @@ length_measure_parts (binary b m n) start = simp length-append (let h = length_m
 length_measure_parts (over s w m) start = simp length-append (let h = length_measure_parts m start in omega arith)
 
 pub length_property_parts : (p : Property) (start : ℕ) → length (property_parts start p) ≡ property_size p
-length_property_parts (compare c d m n) start = simp length-append (let h = length_measure_parts m start in let k = length_measure_parts n (start + measure_size m) in omega arith)
+length_property_parts (compare c q m n) start = simp length-append (let h = length_measure_parts m start in let k = length_measure_parts n (start + measure_size m) in omega arith)
 length_property_parts (prefixed x p) start = simp length-append (let h = length_property_parts p start in omega arith)
 length_property_parts (joined c p q) start = simp length-append (let h = length_property_parts p start in let k = length_property_parts q (start + property_size p) in omega arith)
 
@@ -84,7 +84,7 @@ module _ (ps : List Part) (ns : List Node) (i : ℕ) (below : (j : ℕ) (y : Nod
   ended (Unary u) at is = one_ended (Unary u) _ _ (λ s. refl) at is.1
   ended (Binary b left) at is = two_ended (Binary b) left _ _ _ (λ s. refl) at is.2
   ended (Over s w) at is = one_ended (Over s w) _ _ (λ s. refl) at is.1
-  ended (Compare c d left) at is = two_ended (Compare c d) left _ _ _ (λ s. refl) at is.2
+  ended (Compare c q left) at is = two_ended (Compare c q) left _ _ _ (λ s. refl) at is.2
   ended (Prefix y) at is = one_ended (Prefix y) _ _ (λ s. refl) at is.1
   ended (Connective c left) at is = two_ended (Connective c) left _ _ _ (λ s. refl) at is.2
 

@@ -26,6 +26,7 @@ pub enum Class {
     Other,
 }
 
+// A table, so that a byte is told by one look-up; written out, since a constant's value calls no function.
 static CLASSES: [Class; 256] = [
     Class::Other,
     Class::Other,

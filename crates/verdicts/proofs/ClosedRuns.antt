@@ -12,6 +12,7 @@ use Rattle.parts.specs.Limits.{lawful, lawful_measure, lawful_window}
 use Rattle.parts.specs.declared.kinds.Comparator.{Comparator}
 use Rattle.parts.specs.declared.kinds.Connective.TheVariants.{And, Or, Implies, Iff, Until}
 use Rattle.parts.specs.declared.kinds.Prefix.TheVariants.{Not, Next, Eventually, Always}
+use Rattle.parts.specs.declared.kinds.Quantity.TheVariants.{Value, Change}
 use Rattle.parts.specs.declared.kinds.Window.{Window}
 use Rattle.runs.specs.Moments.{Belongs}
 use Rattle.runs.specs.Runs.{State, endures, value_at}
@@ -121,12 +122,12 @@ module _ (shape : Shape) (largest : ℕ) (mark : Mark) (closed : endures mark �
             o.4 ∙ ap (of_many s) (found.only o.1 (subst (λ ks. Pairwise P ks o.1) same o.3));
       }
 
-  rises_told : (c : Comparator) (m n : Measure) → lawful shape.width largest (compare c true m n) ≡ true
-      → (run : List State) → AllByRecursion (Fits shape) run → 0 < length run → Told (Holds (compare c true m n) run) (rises c (value m mark) (value n mark) mark run)
+  rises_told : (c : Comparator) (m n : Measure) → lawful shape.width largest (compare c Change m n) ≡ true
+      → (run : List State) → AllByRecursion (Fits shape) run → 0 < length run → Told (Holds (compare c Change m n) run) (rises c (value m mark) (value n mark) mark run)
   rises_told c m n h [] fits some = absurd (omega arith)
   rises_told c m n h (s ∷ []) fits some = rw closed (wrong (λ holds. omega (arith, holds.0)))
   rises_told c m n h (s ∷ t ∷ r) fits some =
-      let parts = compare_parts shape.width largest c true m n h in
+      let parts = compare_parts shape.width largest c Change m n h in
       let run = s ∷ t ∷ r in
       let times = λ (x : ℤ). x *ℤ pos s.stay in
       told_as
@@ -150,10 +151,10 @@ module _ (shape : Shape) (largest : ℕ) (mark : Mark) (closed : endures mark �
       told (drop j run) (All-drop (Fits shape) j run fits) (visited_there run j ((visits_in_order w h run fits).each j i))
 
   verdict_told : (p : Property) → lawful shape.width largest p ≡ true → (run : List State) → AllByRecursion (Fits shape) run → 0 < length run → Told (Holds p run) (verdict p mark run)
-  verdict_told (compare c false m n) h run fits some =
-      let parts = compare_parts shape.width largest c false m n h in
+  verdict_told (compare c Value m n) h run fits some =
+      let parts = compare_parts shape.width largest c Value m n h in
       compared_told (Number m run) (Number n run) _ _ c (number_told false m parts.0 run fits some) (number_told false n parts.1 run fits some)
-  verdict_told (compare c true m n) h run fits some = rises_told c m n h run fits some
+  verdict_told (compare c Change m n) h run fits some = rises_told c m n h run fits some
   verdict_told (prefixed Not p) h run fits some = told_not (verdict_told p (prefixed_parts shape.width largest Not p h).1 run fits some)
   verdict_told (prefixed (Next k) p) h run fits some =
       further_told mark closed (Holds p) (verdict p mark) k run

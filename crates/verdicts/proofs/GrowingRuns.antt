@@ -6,6 +6,7 @@ use Rattle.parts.specs.Limits.{lawful, lawful_measure, lawful_window}
 use Rattle.parts.specs.declared.kinds.Comparator.{Comparator}
 use Rattle.parts.specs.declared.kinds.Connective.TheVariants.{And, Or, Implies, Iff, Until}
 use Rattle.parts.specs.declared.kinds.Prefix.TheVariants.{Not, Next, Eventually, Always}
+use Rattle.parts.specs.declared.kinds.Quantity.TheVariants.{Value, Change}
 use Rattle.parts.specs.declared.kinds.Window.{Window}
 use Rattle.runs.specs.Runs.{State, endures, value_at}
 use Rattle.runs.specs.declared.shape.Mark.{Mark}
@@ -94,10 +95,10 @@ module _ (width largest : ℕ) (mark later : Mark) (more : List State) (open' : 
   drop_keeps said said' keeps (suc k) (s ∷ r) = drop_keeps said said' keeps k r
 
   verdict_keeps : (p : Property) → lawful width largest p ≡ true → (run : List State) → Keeps Undecided (verdict p mark run) (verdict p later (run ++ more))
-  verdict_keeps (compare c false m n) h run =
-      let parts = compare_parts width largest c false m n h in compared_keeps c (value_keeps false m parts.0 run) (value_keeps false n parts.1 run)
-  verdict_keeps (compare c true m n) h run =
-      let parts = compare_parts width largest c true m n h in rises_keeps c (value m mark) (value m later) (value n mark) (value n later) (value_keeps false m parts.0) (value_keeps false n parts.1) run
+  verdict_keeps (compare c Value m n) h run =
+      let parts = compare_parts width largest c Value m n h in compared_keeps c (value_keeps false m parts.0 run) (value_keeps false n parts.1 run)
+  verdict_keeps (compare c Change m n) h run =
+      let parts = compare_parts width largest c Change m n h in rises_keeps c (value m mark) (value m later) (value n mark) (value n later) (value_keeps false m parts.0) (value_keeps false n parts.1) run
   verdict_keeps (prefixed Not p) h run = swap_keeps (verdict_keeps p (prefixed_parts width largest Not p h).1 run)
   verdict_keeps (prefixed (Next k) p) h run = drop_keeps (verdict p mark) (verdict p later) (verdict_keeps p (prefixed_parts width largest (Next k) p h).1) k run
   verdict_keeps (prefixed (Eventually w) p) h run =

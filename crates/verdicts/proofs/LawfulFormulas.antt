@@ -8,6 +8,7 @@ use Rattle.parts.specs.declared.kinds.Binary.{Binary}
 use Rattle.parts.specs.declared.kinds.Comparator.{Comparator}
 use Rattle.parts.specs.declared.kinds.Connective.{Connective}
 use Rattle.parts.specs.declared.kinds.Prefix.{Prefix}
+use Rattle.parts.specs.declared.kinds.Quantity.{Quantity}
 use Rattle.parts.specs.declared.kinds.Statistic.{Statistic}
 use Rattle.parts.specs.declared.kinds.Unary.{Unary}
 use Rattle.parts.specs.declared.kinds.Window.{Window}
@@ -32,9 +33,9 @@ module _ (width largest : ℕ) where
       let argument = and_parts (lawful_measure width largest true m) _ window.1 in
       (not-true inside alone.0, window.0, argument.0, argument.1)
 
-  pub compare_parts : (c : Comparator) (d : Bool) (m n : Measure) → lawful width largest (compare c d m n) ≡ true
+  pub compare_parts : (c : Comparator) (q : Quantity) (m n : Measure) → lawful width largest (compare c q m n) ≡ true
       → (lawful_measure width largest false m ≡ true) × (lawful_measure width largest false n ≡ true)
-  compare_parts c d m n h = and_parts _ _ h
+  compare_parts c q m n h = and_parts _ _ h
 
   pub prefixed_parts : (x : Prefix) (p : Property) → lawful width largest (prefixed x p) ≡ true → (lawful_prefix x ≡ true) × (lawful width largest p ≡ true)
   prefixed_parts x p h = and_parts _ _ h

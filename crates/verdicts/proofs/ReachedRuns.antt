@@ -11,6 +11,7 @@ use Rattle.parts.specs.Limits.{lawful, lawful_measure}
 use Rattle.parts.specs.declared.kinds.Comparator.{Comparator}
 use Rattle.parts.specs.declared.kinds.Connective.TheVariants.{And, Or, Implies, Iff, Until}
 use Rattle.parts.specs.declared.kinds.Prefix.TheVariants.{Not, Next, Eventually, Always}
+use Rattle.parts.specs.declared.kinds.Quantity.TheVariants.{Value, Change}
 use Rattle.runs.specs.Runs.{State, ticks, value_at}
 use Rattle.runs.specs.declared.shape.Mark.{Mark}
 use Rattle.runs.specs.declared.shape.Shape.{Shape}
@@ -90,7 +91,7 @@ reach_of_measure (binary b m n) = omega (arith, reach_of_measure m)
 reach_of_measure (over s w m) = omega arith
 
 reach_positive : (longest : ℕ) (p : Property) → 1 ≤ reach_of longest p
-reach_positive longest (compare c d m n) = omega (arith, reach_of_measure m)
+reach_positive longest (compare c q m n) = omega (arith, reach_of_measure m)
 reach_positive longest (prefixed x p) = omega (arith, reach_positive longest p)
 reach_positive longest (joined c p q) = omega (arith, reach_positive longest p)
 
@@ -138,11 +139,11 @@ module _ (shape : Shape) (largest : ℕ) (mark : Mark) where
       (settled_compared c (known_both ◌-ℤ◌ (m_known r fits.1 rest) (m_known (s ∷ r) fits (omega arith))) (known_mapped (λ x. x *ℤ pos s.stay) (n_known (s ∷ r) fits (omega arith))))
 
   verdict_reached : (p : Property) → lawful shape.width largest p ≡ true → (run : List State) → AllByRecursion (Fits shape) run → reach_of shape.longest p ≤ ticks run → Settled (verdict p mark run)
-  verdict_reached (compare c false m n) h run fits enough =
-      let parts = compare_parts shape.width largest c false m n h in
+  verdict_reached (compare c Value m n) h run fits enough =
+      let parts = compare_parts shape.width largest c Value m n h in
       settled_compared c (value_reached false m parts.0 run fits (omega arith)) (value_reached false n parts.1 run fits (omega arith))
-  verdict_reached (compare c true m n) h run fits enough =
-      let parts = compare_parts shape.width largest c true m n h in
+  verdict_reached (compare c Change m n) h run fits enough =
+      let parts = compare_parts shape.width largest c Change m n h in
       rises_reached c (value m mark) (value n mark) (max (measure_reach m) (measure_reach n)) (omega (arith, reach_of_measure m))
       (λ t fits' enough'. value_reached false m parts.0 t fits' (omega arith)) (λ t fits' enough'. value_reached false n parts.1 t fits' (omega arith)) run fits enough
   verdict_reached (prefixed Not p) h run fits enough = settled_swap (verdict_reached p (prefixed_parts shape.width largest Not p h).1 run fits (omega arith))
