@@ -49,7 +49,7 @@ impl Record {
     pub fn place(&self, field: usize) -> Option<Position>
         ensures { result ≡ slice_get (numbers_of self.now).places field }
     {
-        self.fields.places().get(field).copied()
+        self.fields.place(field)
     }
 
     // Refuses a record that has another number of fields than the stay and `width` values.
