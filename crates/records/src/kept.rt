@@ -1,5 +1,5 @@
 // The first fields of a record.
-ghost use Rattle.std.specs.Prelude.{◌≡◌, ◌+◌, ◌^◌, ◌<◌, length};
+ghost use Rattle.std.specs.Prelude.{◌≡◌, ◌+◌, ◌^◌, ◌<◌, drop, length};
 ghost use Rattle.std.specs.List.{slice_get};
 ghost use Rattle.records.specs.Firsts.{kept_fields, none, with_one};
 ghost use Rattle.records.specs.Told.{firsts};
@@ -37,6 +37,16 @@ impl<T: Copy> Kept<T> {
     {
         let values: &[T] = &self.values;
         &values[..self.count.min(values.len())]
+    }
+
+    // What the kept fields behind the first say.
+    pub(crate) fn rest(&self) -> &[T]
+        ensures { result.now ≡ drop 1 (firsts self.now).values }
+    {
+        match self.values() {
+            [] => &[],
+            [_, rest @ ..] => rest,
+        }
     }
 
     // Where a kept field stands.

@@ -39,10 +39,7 @@ impl Record {
     pub fn values(&self) -> &[i64]
         ensures { result.now ≡ values_of (numbers_of self.now) }
     {
-        match self.fields.values() {
-            [] => &[],
-            [_, values @ ..] => values,
-        }
+        self.fields.rest()
     }
 
     // Where that field stands.
