@@ -63,7 +63,7 @@ impl<'a> Header<'a> {
             return Err(RecordFault::Width(kept.at));
         }
         match bad_title(kept.values()) {
-            Some(i) => Err(RecordFault::Name(kept.places().get(i).copied().unwrap_or(kept.at))),
+            Some(i) => Err(RecordFault::Name(kept.place(i).unwrap_or(kept.at))),
             None => Ok(Header { kept }),
         }
     }
