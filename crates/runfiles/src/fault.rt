@@ -35,7 +35,7 @@ impl RunFault {
         ensures { result ≡ refusal_of self.cause }
     {
         match self.cause {
-            Cause::Record(fault) => fault.refusal(),
+            Cause::Record(fault) => Refusal::from(fault),
             Cause::Run(refusal, place) => Refusal {
                 number: refusal.number(),
                 place,
