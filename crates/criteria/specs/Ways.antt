@@ -1,5 +1,5 @@
 -- What each call of the reader does. Assumes nothing.
-use Rattle.std.specs.Prelude.{◌≡◌, ℕ, zero, suc, ◌+◌, ◌-◌, Bool, true, List, [], ◌∷◌, ◌++◌, length, is_some, None, Option, nat_le}
+use Rattle.std.specs.Prelude.{◌≡◌, ℕ, zero, suc, ◌+◌, ◌-◌, Bool, true, false, List, [], ◌∷◌, ◌++◌, length, is_some, None, Option, nat_le}
 use Rattle.records.specs.Told.{names}
 use Rattle.parts.specs.Bounds.{bound_kept, bound_of, if_kept}
 use Rattle.parts.specs.Formulas as formula
@@ -25,6 +25,8 @@ use Rattle.grammar.specs.Trees.{Lead, Link, MeasureTree, PropertyTree}
 use Rattle.criteria.specs.Criteria.{columns_in}
 use Rattle.criteria.specs.States.{View, Way, grown}
 use Rattle.criteria.specs.declared.reader.operands.Call.{Call}
+use Rattle.criteria.specs.declared.reader.operands.Context.{Context}
+use Rattle.criteria.specs.declared.reader.operands.Context.TheVariants as context
 use Rattle.criteria.specs.declared.reader.operands.Function.{Function}
 use Rattle.criteria.specs.declared.reader.operands.Function.TheVariants as function
 use Rattle.criteria.specs.declared.reader.operands.Operand.{Operand}
@@ -77,6 +79,11 @@ measuring columns largest read = record {
   value = λ at m. operand_at largest at (measure_of columns m);
   parts = λ at m. measure_parts at (measure_of columns m);
 }
+
+-- a measure stands inside a window measure, where no other stands
+abbrev pub is_inside : Context → Bool
+is_inside context.Formula = false
+is_inside context.Window = true
 
 abbrev pub numeral_way : Scope → Sign → ℕ → Way MeasureTree Operand
 numeral_way scope sign n = measuring (columns_of scope) scope.magnitude (reading.leaf (rules_of scope) (nat_le n most_numeral) 3 (tree.numeral sign n))

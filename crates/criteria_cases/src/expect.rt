@@ -43,11 +43,7 @@ pub fn formula_of(text: &[u8]) -> Result<Formula, Fail> {
     let mut formula = Formula::new();
     match read(text, FILE, LARGEST, &mut formula).map_err(Refusal::from) {
         Ok(()) => Ok(formula),
-        Err(refusal) => {
-            let number = refusal.number;
-            let place = refusal.place;
-            Err(Fail::new(format_args!("refused: {number} at {place}")))
-        }
+        Err(refusal) => Err(Fail::new(format_args!("refused: {refusal}"))),
     }
 }
 

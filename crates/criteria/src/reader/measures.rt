@@ -3,11 +3,11 @@ ghost use Rattle.std.specs.Prelude.{◌≡◌, ◌<◌, ◌≤◌, Bool, OnOk};
 ghost use Rattle.grammar.specs.Meanings.{signed};
 ghost use Rattle.grammar.specs.Trees.{MeasureTree};
 ghost use Rattle.criteria.specs.States.{AtToken, Balanced, Does, Follows, view};
-ghost use Rattle.criteria.specs.Ways.{arguments_way, call_way, ending_way, kept_bound, measure_way, numeral_way, variable_way};
+ghost use Rattle.criteria.specs.Ways.{arguments_way, call_way, ending_way, is_inside, kept_bound, measure_way, numeral_way, variable_way};
 
 use super::super::fault::{Breach, Rule};
 use super::Reader;
-use super::operands::{Call, Function, Operand};
+use super::operands::{Call, Context, Function, Operand};
 use super::windows::LARGEST_NUMERAL;
 use parts::{Binary, Part, Statistic, Unary};
 use tokens::{Punctuation, Sign, Word};
@@ -75,11 +75,11 @@ impl<'t> Reader<'t> {
     }
 
     #[cycle(arguments_call_measure_one_argument_two_arguments_window_argument)]
-    fn one_argument(&mut self, u: Unary, left: usize, inside: bool) -> Result<Call, Breach>
+    fn one_argument(&mut self, u: Unary, left: usize, context: Context) -> Result<Call, Breach>
         requires { 0 < left }
-        ensures { Does (arguments_way self.old.scope.now (Function.Unary u) left inside) self.old result self.new }
+        ensures { Does (arguments_way self.old.scope.now (Function.Unary u) left (is_inside context)) self.old result self.new }
     {
-        let argument = self.measure(left - 1, inside)?;
+        let argument = self.measure(left - 1, context)?;
         Ok(Call {
             part: Part::Unary(u),
             bound: u.bound(argument.bound),
@@ -87,13 +87,13 @@ impl<'t> Reader<'t> {
     }
 
     #[cycle(arguments_call_measure_one_argument_two_arguments_window_argument)]
-    fn two_arguments(&mut self, b: Binary, left: usize, inside: bool) -> Result<Call, Breach>
+    fn two_arguments(&mut self, b: Binary, left: usize, context: Context) -> Result<Call, Breach>
         requires { 0 < left }
-        ensures { Does (arguments_way self.old.scope.now (Function.Binary b) left inside) self.old result self.new }
+        ensures { Does (arguments_way self.old.scope.now (Function.Binary b) left (is_inside context)) self.old result self.new }
     {
-        let first = self.measure(left - 1, inside)?;
+        let first = self.measure(left - 1, context)?;
         self.punctuation(Punctuation::Comma)?;
-        let second = self.measure(left - 1, inside)?;
+        let second = self.measure(left - 1, context)?;
         Ok(Call {
             part: Part::Binary(b, first.at),
             bound: b.bound(first.bound, second.bound),
@@ -107,7 +107,7 @@ impl<'t> Reader<'t> {
         ensures balance { OnOk result (Balanced self.old self.new) }
     {
         let window = self.window()?;
-        let argument = self.measure(left - 1, true)?;
+        let argument = self.measure(left - 1, Context::Window)?;
         Ok(Call {
             part: Part::Over(s, window),
             bound: s.bound(argument.bound),
@@ -116,49 +116,52 @@ impl<'t> Reader<'t> {
 
     // The arguments of a function, behind their opening bracket, which took one of the nestings left.
     #[cycle(arguments_call_measure_one_argument_two_arguments_window_argument)]
-    fn arguments(&mut self, function: Function, left: usize, inside: bool) -> Result<Call, Breach>
+    fn arguments(
+        &mut self,
+        function: Function,
+        left: usize,
+        context: Context,
+    ) -> Result<Call, Breach>
         requires { 0 < left }
-        ensures { Does (arguments_way self.old.scope.now function left inside) self.old result self.new }
+        ensures { Does (arguments_way self.old.scope.now function left (is_inside context)) self.old result self.new }
     {
         match function {
-            Function::Unary(u) => self.one_argument(u, left, inside),
-            Function::Binary(b) => self.two_arguments(b, left, inside),
+            Function::Unary(u) => self.one_argument(u, left, context),
+            Function::Binary(b) => self.two_arguments(b, left, context),
             Function::Statistic(s) => self.window_argument(s, left),
         }
     }
 
     // The token at hand is this function's name.
     #[cycle(arguments_call_measure_one_argument_two_arguments_window_argument)]
-    fn call(&mut self, function: Function, left: usize, inside: bool) -> Result<Operand, Breach>
+    fn call(&mut self, function: Function, left: usize, context: Context) -> Result<Operand, Breach>
         requires { AtToken self.old }
-        ensures { Does (call_way self.old.scope.now function left inside) self.old result self.new }
+        ensures { Does (call_way self.old.scope.now function left (is_inside context)) self.old result self.new }
     {
         let name = self.token.at();
         self.bring()?;
         self.advance();
         self.opening(left)?;
-        let call = self.arguments(function, left, inside)?;
+        let call = self.arguments(function, left, context)?;
         let bound = self.ending(name, call.bound)?;
         let at = self.write(call.part);
         Ok(Operand { at, bound })
     }
 
-    // A measure, where so many nestings are left. Inside a window measure no other stands.
+    // A measure, where so many nestings are left.
     #[cycle(arguments_call_measure_one_argument_two_arguments_window_argument)]
-    pub(super) fn measure(&mut self, left: usize, inside: bool) -> Result<Operand, Breach>
-        ensures { Does (measure_way self.old.scope.now left inside) self.old result self.new }
+    pub(super) fn measure(&mut self, left: usize, context: Context) -> Result<Operand, Breach>
+        ensures { Does (measure_way self.old.scope.now left (is_inside context)) self.old result self.new }
     {
         match self.token.word() {
             Word::Numeral(sign, magnitude) => self.numeral(sign, magnitude),
             Word::Variable(name) => self.variable(name),
-            Word::Unary(u) => self.call(Function::Unary(u), left, inside),
-            Word::Binary(b) => self.call(Function::Binary(b), left, inside),
-            Word::Statistic(s) => {
-                if inside {
-                    return Err(self.breach(Rule::Grammar));
-                }
-                self.call(Function::Statistic(s), left, inside)
-            }
+            Word::Unary(u) => self.call(Function::Unary(u), left, context),
+            Word::Binary(b) => self.call(Function::Binary(b), left, context),
+            Word::Statistic(s) => match context {
+                Context::Formula => self.call(Function::Statistic(s), left, context),
+                Context::Window => Err(self.breach(Rule::Grammar)),
+            },
             _ => Err(self.breach(Rule::Grammar)),
         }
     }

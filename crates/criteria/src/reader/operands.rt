@@ -1,6 +1,13 @@
 // What is read of a measure.
 use parts::{Binary, Part, Statistic, Unary};
 
+// What a measure stands in: inside a window measure no other stands.
+#[derive(Clone, Copy, PartialEq, Eq, Debug)]
+pub enum Context {
+    Formula,
+    Window,
+}
+
 // A measure that was read: the index of its part, and its bound.
 #[derive(Clone, Copy)]
 pub struct Operand {

@@ -6,6 +6,7 @@ ghost use Rattle.criteria.specs.States.{AtToken, Balanced, Does, Follows, View, 
 ghost use Rattle.criteria.specs.Ways.{Ends, bracketed_way, change_comparison_way, columns_of, compared_way, comparison_way, index_way, lead_way, link_way, linked_way, links_way, next_lead_way, operand_way, prefix_sign_way, prefixed_way, tier_way};
 
 use super::super::fault::{Breach, Rule};
+use super::operands::Context;
 use super::{MOST_PARTS, Reader};
 use parts::{Connective, Part, Prefix, Quantity};
 use tokens::{ConnectiveSign, PrefixSign, Punctuation, Sign, Word};
@@ -13,7 +14,7 @@ use tokens::{ConnectiveSign, PrefixSign, Punctuation, Sign, Word};
 // The largest index of X.
 const LARGEST_INDEX: u64 = 4_096;
 
-// How loosely U binds, the loosest of the connectives.
+// How loosely U binds, the loosest of the connectives. A level is a number, since a formula goes down them one by one.
 const LOOSEST: usize = 5;
 
 impl<'t> Reader<'t> {
@@ -27,14 +28,14 @@ impl<'t> Reader<'t> {
         };
         self.bring()?;
         self.advance();
-        self.measure(left, false)?;
+        self.measure(left, Context::Formula)?;
         Ok(self.write(Part::Compare(comparator, quantity, left_at)))
     }
 
     fn comparison(&mut self, left: usize) -> Result<usize, Breach>
         ensures { Does (comparison_way self.old.scope.now left) self.old result self.new }
     {
-        let first = self.measure(left, false)?;
+        let first = self.measure(left, Context::Formula)?;
         self.compared(left, Quantity::Value, first.at)
     }
 
@@ -45,12 +46,12 @@ impl<'t> Reader<'t> {
     {
         self.advance();
         self.opening(left)?;
-        let first = self.measure(left - 1, false)?;
+        let first = self.measure(left - 1, Context::Formula)?;
         self.punctuation(Punctuation::Close)?;
         self.compared(left, Quantity::Change, first.at)
     }
 
-    // The index of X, behind its bracket.
+    // The index of X, behind its bracket. Other signs and another limit than a window's: one function for both would say no more.
     fn index(&mut self) -> Result<u64, Breach>
         ensures { Does index_way self.old result self.new }
     {
