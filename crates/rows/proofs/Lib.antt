@@ -1,3 +1,0 @@
-pub mod RecordedRows
-pub mod RowStates
-pub mod WrittenRows

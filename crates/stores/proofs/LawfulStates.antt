@@ -1,11 +1,12 @@
 -- What a state that is not refused has. Assumes nothing.
-use Rattle.std.proofs.Common.{◌≡◌, ℕ, ◌<◌, ◌≤◌, true, eqb, leb, List, [], ◌∷◌, ◌++◌, length, get_or, ℤ, pos, negsuc, nat_abs, None, refl, arith}
+use Rattle.std.proofs.Common.{◌≡◌, ℕ, zero, suc, ◌<◌, ◌≤◌, true, eqb, leb, List, [], ◌∷◌, ◌++◌, length, get_or, ℤ, pos, negsuc, nat_abs, None, refl, arith}
 use Rattle.std.specs.Int.{is_in_range}
 use Rattle.std.proofs.ByRecursion.{All-get_or}
-use Rattle.std.proofs.lemmas.Bool.{and_from, and_parts, cases_Bool, eq-eqb, leb-true}
+use Rattle.std.proofs.lemmas.Bool.{and_from, and_parts, cases_Bool, eq-eqb, eqb-true, leb-true}
 use Rattle.std.proofs.lemmas.Bool.Decides.{nat_tests}
+use Rattle.std.proofs.lemmas.Option.{slice_get_past}
 use Rattle.runs.specs.Feeding.{all_within, offered, stay_within, unlawful}
-use Rattle.runs.specs.Runs.{State}
+use Rattle.runs.specs.Runs.{State, value_at}
 use Rattle.runs.specs.declared.shape.Shape.{Shape}
 use Rattle.stores.specs.Cells.{are_lawful, is_lawful, magnitudes_lawful}
 
@@ -49,3 +50,13 @@ lawful_more shape largest [] s all one = and_from (is_lawful shape largest s) tr
 lawful_more shape largest (t ∷ ss) s all one =
     let p = and_parts (is_lawful shape largest t) (are_lawful shape largest ss) all in
     and_from (is_lawful shape largest t) _ p.0 (lawful_more shape largest ss s p.1 one)
+
+-- a lawful state has no value beyond the width
+pub no_value : (shape : Shape) (largest : ℕ) (ss : List State) (i v : ℕ) → are_lawful shape largest ss ≡ true → shape.width ≤ v → value_at ss i v ≡ None
+no_value shape largest [] i v all past = refl
+no_value shape largest (s ∷ ss) zero v all past =
+    let one = and_parts (is_in_range 1 shape.longest s.stay) _ (and_parts (is_lawful shape largest s) (are_lawful shape largest ss) all).0 in
+    let wide = eqb-true (length s.values) shape.width (and_parts (eqb (length s.values) shape.width) (all_within largest s.values) one.1).0 in
+    slice_get_past s.values v (omega (arith, wide))
+no_value shape largest (s ∷ ss) (suc i) v all past =
+    no_value shape largest ss i v (and_parts (is_lawful shape largest s) (are_lawful shape largest ss) all).1 past

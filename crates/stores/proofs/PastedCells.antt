@@ -3,7 +3,7 @@ use Rattle.std.proofs.Common.{◌≡◌, ℕ, suc, ◌+◌, ◌<◌, List, [], �
 use lib.Seq.{paste}
 use Rattle.std.proofs.lemmas.List.Edits.{paste_more}
 use Rattle.std.proofs.lemmas.List.{append_assoc, drop_at, drop-drop, drop-set-lt, length-append, take_all, take_at, take_more_set}
-use Rattle.stores.specs.Filled.{over}
+use Rattle.stores.specs.Recorded.{over}
 
 -- one value more of the row
 pub pasted_more : (d now s : List ℤ) (at place v : ℕ) (z : ℤ) → now ≡ paste d at s v → place ≡ at → z ≡ get_or s v (pos 0) → at + v < length d → v < length s → set now (place + v) z ≡ paste d at s (v + 1)

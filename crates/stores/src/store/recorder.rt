@@ -1,16 +1,17 @@
-// Rows as a recorder.
+// Stores as recorders.
 ghost use Rattle.std.specs.Prelude.{◌≡◌, pos};
 ghost use Rattle.runs.specs.Feeding.{after, answer, fed};
-ghost use Rattle.rows.specs.RowRuns.{cells_of, free_in, left_in, meaning_of, need_in, refusal_by, written_in};
-ghost use Rattle.rows.specs.Rows.{row_largest, rows_priced, rows_sound};
+ghost use Rattle.stores.specs.Filled.{meaning_sound, need_priced};
+ghost use Rattle.stores.specs.Stores.{cells_of, free_in, left_in, meaning_of, need_in, refusal_by, written_in};
 
-use super::Rows;
+use super::Store;
+use crate::Layout;
 use runs::{Mark, Recorder, Refusal, Shape};
 
-impl<'a> Recorder for Rows<'a> {
-    const LARGEST: i64 = 1_000_000_000;
+impl<'a, L: Layout> Recorder for Store<'a, L> {
+    const LARGEST: i64 = L::LARGEST;
 
-    ghost largest = { row_largest };
+    ghost largest = { L.coding.largest };
 
     ghost meaning = { meaning_of };
 
@@ -24,14 +25,14 @@ impl<'a> Recorder for Rows<'a> {
 
     ghost place = { λ x. x.cells.ghost_name };
 
-    ghost sound = { λ x. rows_sound x.head x.cells.now x.lawful };
+    ghost sound = { λ x. meaning_sound L.coding x.head (cells_of x) x.lawful };
 
-    ghost priced = { λ x. rows_priced x.head.shape };
+    ghost priced = { λ x. need_priced L.coding (meaning_of x) };
 
     fn largest_magnitude() -> i64
-        ensures { result ≡ pos row_largest }
+        ensures { result ≡ pos L.coding.largest }
     {
-        Self::LARGEST
+        L::largest_magnitude()
     }
 
     fn shape(&self) -> Shape {
@@ -39,7 +40,7 @@ impl<'a> Recorder for Rows<'a> {
     }
 
     fn count(&self) -> usize {
-        self.rows()
+        self.head.count
     }
 
     fn mark(&self) -> Mark {
@@ -51,21 +52,23 @@ impl<'a> Recorder for Rows<'a> {
     }
 
     fn need(&self, stay: i64, values: &[i64]) -> usize {
-        match self.shape().unlawful(Self::LARGEST, stay, values) {
+        match self.shape().unlawful(L::largest_magnitude(), stay, values) {
             Some(_) => 0,
-            None => self.width() + 1,
+            None => self.layout.need(self.filled(), stay, values),
         }
     }
 
     fn stay(&self, i: usize) -> Option<u64> {
-        let row = self.row(i)?;
-        Some(self.stay_in(row))
+        if i < self.head.count {
+            Some(self.layout.stay(self.filled(), i))
+        } else {
+            None
+        }
     }
 
     fn value(&self, i: usize, v: usize) -> Option<i64> {
-        let row = self.row(i)?;
-        if v < self.width() {
-            Some(self.value_in(row, v))
+        if i < self.head.count && v < self.head.shape.width {
+            Some(self.layout.value(self.filled(), i, v))
         } else {
             None
         }
@@ -82,11 +85,11 @@ impl<'a> Recorder for Rows<'a> {
         let need = (*self).need(stay, values);
         if let Some(refusal) = self
             .head
-            .feed_refusal(Self::LARGEST, (*self).free(), need, stay, values)
+            .feed_refusal(L::largest_magnitude(), (*self).free(), need, stay, values)
         {
             return Err(refusal);
         }
-        self.keep(stay, values);
+        self.keep(need, stay, values);
         Ok(())
     }
 
