@@ -22,10 +22,10 @@ impl Shape {
     pub fn check(self) -> Result<(), Refusal>
         ensures { result ≡ answer (shape_refusal self) }
     {
-        if self.width < 1 || self.width > WIDEST {
+        if !(1..=WIDEST).contains(&self.width) {
             return Err(Refusal::Width);
         }
-        if self.longest < 1 || self.longest > LONGEST {
+        if !(1..=LONGEST).contains(&self.longest) {
             return Err(Refusal::Stay);
         }
         Ok(())
