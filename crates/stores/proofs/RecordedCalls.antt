@@ -4,7 +4,8 @@ use lib.Seq.{paste}
 use Rattle.std.proofs.lemmas.Bool.Decides.{nat_tests}
 use Rattle.std.proofs.lemmas.List.{at_drop_more, length-take-le}
 use Rattle.runs.specs.Calls.{step_of, step_written, stepped}
-use Rattle.runs.specs.Feeding.{after, close_refusal, fed, offered, with_state}
+use Rattle.runs.specs.Feeding.{after, close_refusal, fed, state_of, with_state}
+use Rattle.runs.specs.Offers.{Offered, told}
 use Rattle.runs.specs.Runs.{Meaning}
 use Rattle.runs.specs.declared.calls.Call.{Call}
 use Rattle.runs.specs.declared.calls.Call.TheVariants as call
@@ -36,46 +37,43 @@ module _ {L : Type 0} {g : Ghosts L} (r : Store L g) where
   free_is = ap (λ n. cond (leb 4096 n) 0 (length (cells_of r) - r.head.used)) (sym kept_count) ∙ ap (λ n. cond (leb 4096 (length (states_of r))) 0 (length (cells_of r) - n)) used_is
 
   -- a state that is taken fills cells that are there
-  module _ (stay : ℤ) (values : List ℤ) (taken : refusal_by r stay values ≡ None) where
-    needs : ℕ
-    needs = g.coding.needs r.head.shape (states_of r) stay values
-
-    fits : r.head.used + g.coding.needs r.head.shape (states_of r) stay values ≤ length (cells_of r)
+  module _ (o : Offered) (taken : refusal_by r o ≡ None) where
+    fits : r.head.used + g.coding.needs r.head.shape (states_of r) o ≤ length (cells_of r)
     fits =
-        let lawful = taken_lawful g.coding.largest (free_in r) (need_in r stay values) (meaning_of r) stay values taken in
-        let room = taken_room g.coding.largest (free_in r) (need_in r stay values) (meaning_of r) stay values taken in
-        let need : need_in r stay values ≡ g.coding.needs r.head.shape (states_of r) stay values = rw lawful in
+        let lawful = taken_lawful g.coding.largest (free_in r) (need_in r o) (meaning_of r) o taken in
+        let room = taken_room g.coding.largest (free_in r) (need_in r o) (meaning_of r) o taken in
+        let need : need_in r o ≡ g.coding.needs r.head.shape (states_of r) o = rw lawful in
         grind (arith, nat_tests, r.within)
 
-    pub written_long : length (written_in r stay values) ≡ length (cells_of r)
+    pub written_long : length (written_in r o) ≡ length (cells_of r)
     written_long =
-        let lawful = taken_lawful g.coding.largest (free_in r) (need_in r stay values) (meaning_of r) stay values taken in
-        as_many g.coding r.head (cells_of r) (g.coding.needs r.head.shape (states_of r) stay values) stay values lawful refl r.within fits
+        let lawful = taken_lawful g.coding.largest (free_in r) (need_in r o) (meaning_of r) o taken in
+        as_many g.coding r.head (cells_of r) (g.coding.needs r.head.shape (states_of r) o) o lawful refl r.within fits
 
-    taken_held : (first : List ℤ) → Holds g.coding first (meaning_of r) (cells_of r) → Holds g.coding first (with_state (offered stay values) 0 (meaning_of r).run) (written_in r stay values)
+    taken_held : (first : List ℤ) → Holds g.coding first (meaning_of r) (cells_of r) → Holds g.coding first (with_state (state_of o) 0 (meaning_of r).run) (written_in r o)
     taken_held first before =
-        let lawful = taken_lawful g.coding.largest (free_in r) (need_in r stay values) (meaning_of r) stay values taken in
+        let lawful = taken_lawful g.coding.largest (free_in r) (need_in r o) (meaning_of r) o taken in
         let filled = cells_in g.coding (meaning_of r) in
-        let added = g.coding.added r.head.shape (states_of r) stay values in
-        let need = g.coding.needs r.head.shape (states_of r) stay values in
-        let long = sym (g.coding.fits r.head.shape (states_of r) stay values lawful) in
-        let more : filled ++ added ≡ cells_in g.coding (with_state (offered stay values) 0 (meaning_of r).run) = sym (g.coding.more r.head.shape (states_of r) stay values lawful) in
+        let added = g.coding.added r.head.shape (states_of r) o in
+        let need = g.coding.needs r.head.shape (states_of r) o in
+        let long = sym (g.coding.fits r.head.shape (states_of r) o lawful) in
+        let more : filled ++ added ≡ cells_in g.coding (with_state (state_of o) 0 (meaning_of r).run) = sym (g.coding.more r.head.shape (states_of r) o lawful) in
         record {
           held = ap (λ cs. paste cs r.head.used added need) before.held ∙ over_more filled added first r.head.used need used_is long ∙ ap (λ cs. over cs first) more;
           long = written_long ∙ before.long;
         }
 
   module _ (first : List ℤ) (before : Holds g.coding first (meaning_of r) (cells_of r)) where
-    fed_held : (stay : ℤ) (values : List ℤ) (o : Option Refusal) → refusal_by r stay values ≡ o → Holds g.coding first (fed o stay values (meaning_of r)) (after o (cells_of r) (written_in r stay values))
-    fed_held stay values (Some why) e = before
-    fed_held stay values None e = taken_held stay values e first before
+    fed_held : (o : Offered) (refused : Option Refusal) → refusal_by r o ≡ refused → Holds g.coding first (fed refused o (meaning_of r)) (after refused (cells_of r) (written_in r o))
+    fed_held o (Some why) e = before
+    fed_held o None e = taken_held o e first before
 
     closed_held : (o : Option Refusal) → Holds g.coding first (after o (meaning_of r) (record { run = record { shape = r.head.shape; states = states_of r; mark = Closed }; lead = 0 })) (cells_of r)
     closed_held (Some why) = before
     closed_held None = record { held = before.held; long = before.long }
 
     step_held : (c : Call) → Holds g.coding first (stepped g.coding.largest (step_of (free_in r) (need_in r) c) (meaning_of r)) (step_written g.coding.largest (step_of (free_in r) (need_in r) c) (meaning_of r) (cells_of r) (written_in r))
-    step_held (call.Feed stay values) = fed_held stay values.now _ refl
+    step_held (call.Feed offer) = fed_held (told offer) _ refl
     step_held call.Close = closed_held (close_refusal (meaning_of r))
 
     -- a call is carried out, after which the meaning is n

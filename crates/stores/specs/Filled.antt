@@ -3,6 +3,7 @@ use Rattle.std.specs.Prelude.{◌≡◌, ℕ, true, List, length, take, ℤ}
 use Rattle.std.proofs.Common.{arith}
 use Rattle.std.proofs.Math.Seq.{paste}
 use Rattle.runs.specs.Feeding.{Priced}
+use Rattle.runs.specs.Offers.{Offered}
 use Rattle.runs.specs.Runs.{Meaning, Sound, State}
 use Rattle.stores.specs.Cells.{are_lawful, head_meaning, need_of, needs_priced, states_lawful}
 use Rattle.stores.specs.Coding.{Coding}
@@ -13,10 +14,10 @@ use Rattle.stores.specs.declared.layout.Filled.{Filled}
 abbrev pub states_in : Coding → Filled → List State
 states_in k f = k.states f.head.shape f.head.count f.cells.now
 
-abbrev pub added_to : Coding → Filled → ℤ → List ℤ → List ℤ
+abbrev pub added_to : Coding → Filled → Offered → List ℤ
 added_to k f = k.added f.head.shape (states_in k f)
 
-abbrev pub needed_in : Coding → Filled → ℤ → List ℤ → ℕ
+abbrev pub needed_in : Coding → Filled → Offered → ℕ
 needed_in k f = k.needs f.head.shape (states_in k f)
 
 -- the cells that a head has filled, and the states that they tell
@@ -30,12 +31,12 @@ abbrev pub meaning_by : Coding → Head → List ℤ → Meaning
 meaning_by k h cells = head_meaning h (states_by k h cells)
 
 -- an unlawful state needs no cell, any other those that it fills
-abbrev pub need_after : Coding → Meaning → ℤ → List ℤ → ℕ
+abbrev pub need_after : Coding → Meaning → Offered → ℕ
 need_after k m = need_of m.run.shape k.largest (k.needs m.run.shape m.run.states)
 
 -- the cells with one state more
-abbrev pub written_by : Coding → Head → List ℤ → ℤ → List ℤ → List ℤ
-written_by k h cells stay values = paste cells h.used (k.added h.shape (states_by k h cells) stay values) (k.needs h.shape (states_by k h cells) stay values)
+abbrev pub written_by : Coding → Head → List ℤ → Offered → List ℤ
+written_by k h cells o = paste cells h.used (k.added h.shape (states_by k h cells) o) (k.needs h.shape (states_by k h cells) o)
 
 pub meaning_sound : (k : Coding) (h : Head) (cells : List ℤ) → are_lawful h.shape k.largest (states_by k h cells) ≡ true → Sound k.largest (meaning_by k h cells)
 meaning_sound k h cells lawful = record {

@@ -1,12 +1,14 @@
 // How a kind of recorder lays its states in cells.
 ghost use Rattle.std.specs.Prelude.{◌≡◌, ℕ, ◌+◌, ◌<◌, ◌≤◌, List, [], ◌∷◌, ◌++◌, drop, length, ℤ, pos, None, Some};
-ghost use Rattle.runs.specs.Feeding.{offered, unlawful};
+ghost use Rattle.runs.specs.Feeding.{state_of, unlawful};
+ghost use Rattle.runs.specs.Offers.{told};
 ghost use Rattle.runs.specs.Runs.{stay_at, value_at};
 ghost use Rattle.runs.specs.declared.shape.Shape.{Shape};
 ghost use Rattle.stores.specs.Coding.{Coding};
 ghost use Rattle.stores.specs.Filled.{added_to, needed_in, states_in};
 
 use super::head::Head;
+use runs::Offer;
 
 // The cells that are filled, and what the head knows of the states in them.
 #[derive(Clone, Copy)]
@@ -36,20 +38,20 @@ pub trait Layout: Drop {
         ensures { (shape : Shape) → shape.width ≤ 16 → kept result shape 0 [] };
 
     // How many cells a lawful state needs.
-    fn need(&self, filled: Filled<'_>, stay: i64, values: &[i64]) -> usize
+    fn need(&self, filled: Filled<'_>, offer: Offer<'_>) -> usize
         requires kept { kept self.now filled.head.shape filled.head.count filled.cells.now }
-        requires lawful { unlawful filled.head.shape coding.largest stay values.now ≡ None }
-        ensures { result ≡ needed_in coding filled.entry stay values.now };
+        requires lawful { unlawful filled.head.shape coding.largest (told offer) ≡ None }
+        ensures { result ≡ needed_in coding filled.entry (told offer.entry) };
 
     // Writes a lawful state in the first of the free cells.
-    fn keep(&mut self, filled: Filled<'_>, free: &mut [i32], stay: i64, values: &[i64])
+    fn keep(&mut self, filled: Filled<'_>, free: &mut [i32], offer: Offer<'_>)
         requires kept { kept self.old filled.head.shape filled.head.count filled.cells.now }
-        requires lawful { unlawful filled.head.shape coding.largest stay values.now ≡ None }
+        requires lawful { unlawful filled.head.shape coding.largest (told offer) ≡ None }
         requires few { filled.head.count < 4096 }
-        requires room { needed_in coding filled stay values.now ≤ length free.old }
-        ensures cells { free.new ≡ added_to coding filled.entry stay values.now ++ drop (needed_in coding filled.entry stay values.now) free.old }
-        ensures kept { kept self.new filled.entry.head.shape (filled.entry.head.count + 1) (filled.entry.cells.now ++ added_to coding filled.entry stay values.now) }
-        ensures states { coding.states filled.entry.head.shape (filled.entry.head.count + 1) (filled.entry.cells.now ++ added_to coding filled.entry stay values.now) ≡ states_in coding filled.entry ++ (offered stay values.now ∷ []) };
+        requires room { needed_in coding filled (told offer) ≤ length free.old }
+        ensures cells { free.new ≡ added_to coding filled.entry (told offer.entry) ++ drop (needed_in coding filled.entry (told offer.entry)) free.old }
+        ensures kept { kept self.new filled.entry.head.shape (filled.entry.head.count + 1) (filled.entry.cells.now ++ added_to coding filled.entry (told offer.entry)) }
+        ensures states { coding.states filled.entry.head.shape (filled.entry.head.count + 1) (filled.entry.cells.now ++ added_to coding filled.entry (told offer.entry)) ≡ states_in coding filled.entry ++ (state_of (told offer.entry) ∷ []) };
 
     // The stay of state i, and the value of its variable v.
     fn stay(&self, filled: Filled<'_>, i: usize) -> u64

@@ -1,13 +1,14 @@
 // How stores start and are filled.
 ghost use Rattle.std.specs.Prelude.{◌≡◌, ◌+◌, ◌<◌, ◌≤◌, length, None};
-ghost use Rattle.runs.specs.Feeding.{offered, unlawful, with_state};
+ghost use Rattle.runs.specs.Feeding.{state_of, unlawful, with_state};
+ghost use Rattle.runs.specs.Offers.{told};
 ghost use Rattle.runs.specs.Shapes.{begun};
 ghost use Rattle.stores.specs.Filled.{filled_by};
 ghost use Rattle.stores.specs.Stores.{cells_of, free_in, left_in, meaning_of, states_of, written_in};
 
 use super::Store;
 use crate::{Filled, Head, Layout};
-use runs::Shape;
+use runs::{Offer, Shape};
 
 impl<'a, L: Layout> Store<'a, L> {
     // An open run without states, whose shape is the lawful one nearest to `shape`. No cell changes.
@@ -36,15 +37,15 @@ impl<'a, L: Layout> Store<'a, L> {
     }
 
     // Keeps a state in the next cells, of which it needs so many.
-    pub(super) fn keep(&mut self, need: usize, stay: i64, values: &[i64])
-        requires lawful { unlawful self.old.head.shape L.coding.largest stay values.now ≡ None }
+    pub(super) fn keep(&mut self, need: usize, offer: Offer<'_>)
+        requires lawful { unlawful self.old.head.shape L.coding.largest (told offer) ≡ None }
         requires few { self.old.head.count < 4096 }
-        requires need { need ≡ L.coding.needs self.old.head.shape (states_of self.old) stay values.now }
+        requires need { need ≡ L.coding.needs self.old.head.shape (states_of self.old) (told offer) }
         requires room { self.old.head.used + need ≤ length (cells_of self.old) }
-        ensures after { meaning_of self.new ≡ with_state (offered stay values.now) 0 (meaning_of self.old).run }
-        ensures cells { cells_of self.new ≡ written_in self.old stay values.now }
+        ensures after { meaning_of self.new ≡ with_state (state_of (told offer.entry)) 0 (meaning_of self.old).run }
+        ensures cells { cells_of self.new ≡ written_in self.old (told offer.entry) }
         ensures place { self.new.cells.ghost_name ≡ self.old.cells.ghost_name }
-        ensures free { free_in self.new ≡ left_in self.old stay values.now }
+        ensures free { free_in self.new ≡ left_in self.old (told offer.entry) }
     {
         let cells = &mut *self.cells;
         let (front, free) = cells.split_at_mut(self.head.used);
@@ -52,7 +53,7 @@ impl<'a, L: Layout> Store<'a, L> {
             head: self.head,
             cells: front,
         };
-        self.layout.keep(filled, free, stay, values);
+        self.layout.keep(filled, free, offer);
         self.head.count += 1;
         self.head.used += need;
     }

@@ -1,12 +1,13 @@
 // Stores as recorders.
 ghost use Rattle.std.specs.Prelude.{◌≡◌, pos};
 ghost use Rattle.runs.specs.Feeding.{after, answer, fed};
+ghost use Rattle.runs.specs.Offers.{told};
 ghost use Rattle.stores.specs.Filled.{meaning_sound, need_priced};
 ghost use Rattle.stores.specs.Stores.{cells_of, free_in, left_in, meaning_of, need_in, refusal_by, written_in};
 
 use super::Store;
 use crate::Layout;
-use runs::{Mark, Recorder, Refusal, Shape};
+use runs::{Mark, Recorder, Offer, Refusal, Shape};
 
 impl<'a, L: Layout> Recorder for Store<'a, L> {
     const LARGEST: i64 = L::LARGEST;
@@ -51,10 +52,10 @@ impl<'a, L: Layout> Recorder for Store<'a, L> {
         self.head.free(self.cells.len())
     }
 
-    fn need(&self, stay: i64, values: &[i64]) -> usize {
-        match self.shape().unlawful(L::largest_magnitude(), stay, values) {
+    fn need(&self, offer: Offer<'_>) -> usize {
+        match self.shape().unlawful(L::largest_magnitude(), offer) {
             Some(_) => 0,
-            None => self.layout.need(self.filled(), stay, values),
+            None => self.layout.need(self.filled(), offer),
         }
     }
 
@@ -75,21 +76,21 @@ impl<'a, L: Layout> Recorder for Store<'a, L> {
     }
 
     // The clauses of every recorder, and that the free cells fall by what the state needs.
-    fn feed(&mut self, stay: i64, values: &[i64]) -> Result<(), Refusal>
-        ensures answer { result ≡ answer (refusal_by self.old stay values.now) }
-        ensures after { meaning_of self.new ≡ fed (refusal_by self.old stay values.now) stay values.now (meaning_of self.old) }
-        ensures cells { cells_of self.new ≡ after (refusal_by self.old stay values.now) (cells_of self.old) (written_in self.old stay values.now) }
+    fn feed(&mut self, offer: Offer<'_>) -> Result<(), Refusal>
+        ensures answer { result ≡ answer (refusal_by self.old (told offer.entry)) }
+        ensures after { meaning_of self.new ≡ fed (refusal_by self.old (told offer.entry)) (told offer.entry) (meaning_of self.old) }
+        ensures cells { cells_of self.new ≡ after (refusal_by self.old (told offer.entry)) (cells_of self.old) (written_in self.old (told offer.entry)) }
         ensures place { self.new.cells.ghost_name ≡ self.old.cells.ghost_name }
-        ensures free { free_in self.new ≡ after (refusal_by self.old stay values.now) (free_in self.old) (left_in self.old stay values.now) }
+        ensures free { free_in self.new ≡ after (refusal_by self.old (told offer.entry)) (free_in self.old) (left_in self.old (told offer.entry)) }
     {
-        let need = (*self).need(stay, values);
+        let need = (*self).need(offer);
         if let Some(refusal) = self
             .head
-            .feed_refusal(L::largest_magnitude(), (*self).free(), need, stay, values)
+            .feed_refusal(L::largest_magnitude(), (*self).free(), need, offer)
         {
             return Err(refusal);
         }
-        self.keep(need, stay, values);
+        self.keep(need, offer);
         Ok(())
     }
 
