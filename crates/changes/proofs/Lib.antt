@@ -1,9 +1,5 @@
-pub mod KeptFacts
-pub mod KeptState
 pub mod NotedWaypoints
 pub mod OneStateMore
 pub mod PackedChanges
 pub mod Places
-pub mod RecordedChanges
 pub mod ToldStates
-pub mod WrittenChanges

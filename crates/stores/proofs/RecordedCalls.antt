@@ -13,8 +13,8 @@ use Rattle.runs.specs.declared.refusal.Refusal.{Refusal}
 use Rattle.runs.specs.declared.shape.Mark.TheVariants.{Closed}
 use Rattle.runs.proofs.TakenStates.{taken_lawful, taken_room}
 use Rattle.stores.specs.Coding.{Coding}
-use Rattle.stores.specs.Filled.{filled_by}
-use Rattle.stores.specs.Recorded.{cells_in, free_beside, over, store_led}
+use Rattle.stores.specs.Filled.{filled_by, over}
+use Rattle.stores.specs.Recorded.{cells_in, free_beside, store_led}
 use Rattle.stores.specs.Stores.{cells_of, free_in, meaning_of, need_in, refusal_by, states_of, written_in}
 use Rattle.stores.specs.declared.layout.Layout.{Ghosts}
 use Rattle.stores.specs.declared.store.Store.{Store}

@@ -6,7 +6,7 @@ use Rattle.runs.specs.Feeding.{state_of, unlawful}
 use Rattle.runs.specs.Offers.{Offered}
 use Rattle.stores.specs.Cells.{are_lawful}
 use Rattle.stores.specs.Coding.{Coding}
-use Rattle.stores.specs.Filled.{filled_by, states_by, written_by}
+use Rattle.stores.specs.Filled.{filled_by, over, states_by, written_by}
 use Rattle.stores.specs.declared.head.Head.{Head}
 use Rattle.stores.proofs.LawfulStates.{lawful_more, offered_lawful}
 
@@ -17,11 +17,11 @@ module _ (k : Coding) (h : Head) (cells : List ℤ) (need : ℕ) (o : Offered)
   long : length (k.added h.shape (states_by k h cells) o) ≡ need
   long = k.fits h.shape (states_by k h cells) o lawful ∙ sym needs
 
-  pub cells_written : filled_by h cells ++ (k.added h.shape (states_by k h cells) o ++ drop (k.needs h.shape (states_by k h cells) o) (drop h.used cells)) ≡ written_by k h cells o
+  pub cells_written : filled_by h cells ++ over (k.added h.shape (states_by k h cells) o) (drop h.used cells) ≡ written_by k h cells o
   cells_written =
       let added = k.added h.shape (states_by k h cells) o in
       let whole : take need added ≡ added = take_all need added (omega (arith, long)) in
-      rw (sym needs, whole, drop-drop need h.used cells) (sym (append_assoc (filled_by h cells) added (drop (h.used + need) cells)))
+      rw (sym needs, whole, long, drop-drop need h.used cells) (sym (append_assoc (filled_by h cells) added (drop (h.used + need) cells)))
 
   pub as_many : length (written_by k h cells o) ≡ length cells
   as_many = rw (sym needs) (length-paste cells h.used (k.added h.shape (states_by k h cells) o) need room (omega (arith, long)))

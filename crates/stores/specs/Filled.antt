@@ -1,5 +1,5 @@
--- What filled cells tell, and what a head and its cells mean. Assumes nothing.
-use Rattle.std.specs.Prelude.{◌≡◌, ℕ, true, List, length, take, ℤ}
+-- How cells are filled, what filled cells tell, and what a head and its cells mean. Assumes nothing.
+use Rattle.std.specs.Prelude.{◌≡◌, ℕ, true, List, ◌++◌, length, take, drop, ℤ}
 use Rattle.std.proofs.Common.{arith}
 use Rattle.std.proofs.Math.Seq.{paste}
 use Rattle.runs.specs.Feeding.{Priced}
@@ -9,6 +9,10 @@ use Rattle.stores.specs.Cells.{are_lawful, head_meaning, need_of, needs_priced, 
 use Rattle.stores.specs.Coding.{Coding}
 use Rattle.stores.specs.declared.head.Head.{Head}
 use Rattle.stores.specs.declared.layout.Filled.{Filled}
+
+-- the first of the cells filled, and behind them what was there before
+abbrev pub over : List ℤ → List ℤ → List ℤ
+over filled cells = filled ++ drop (length filled) cells
 
 -- the states that filled cells tell, and the cells of one more, of which it needs so many
 abbrev pub states_in : Coding → Filled → List State

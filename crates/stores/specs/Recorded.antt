@@ -1,14 +1,10 @@
--- What cells hold once states were written over the first of them, and what lists of calls lead to. Assumes nothing.
-use Rattle.std.specs.Prelude.{ℕ, ◌-◌, cond, List, ◌++◌, length, drop, ℤ, nat_le}
+-- What lists of calls lead to in a store. Assumes nothing.
+use Rattle.std.specs.Prelude.{ℕ, ◌-◌, cond, List, length, ℤ, nat_le}
 use Rattle.runs.specs.Calls.{led}
 use Rattle.runs.specs.Runs.{Meaning, State}
 use Rattle.runs.specs.declared.calls.Call.{Call}
 use Rattle.stores.specs.Coding.{Coding}
 use Rattle.stores.specs.Filled.{need_after}
-
--- the cells of the states, and behind them what was there before
-abbrev pub over : List ℤ → List ℤ → List ℤ
-over filled cells = filled ++ drop (length filled) cells
 
 -- the free ones of so many cells, where the states fill these
 abbrev pub free_beside : ℕ → List State → List ℤ → ℕ

@@ -1,11 +1,11 @@
 // How a kind of recorder lays its states in cells.
-ghost use Rattle.std.specs.Prelude.{◌≡◌, ℕ, ◌+◌, ◌<◌, ◌≤◌, List, [], ◌∷◌, ◌++◌, drop, length, ℤ, pos, None, Some};
+ghost use Rattle.std.specs.Prelude.{◌≡◌, ℕ, ◌+◌, ◌<◌, ◌≤◌, List, [], ◌∷◌, ◌++◌, length, ℤ, pos, None, Some};
 ghost use Rattle.runs.specs.Feeding.{state_of, unlawful};
 ghost use Rattle.runs.specs.Offers.{told};
 ghost use Rattle.runs.specs.Runs.{stay_at, value_at};
 ghost use Rattle.runs.specs.declared.shape.Shape.{Shape};
 ghost use Rattle.stores.specs.Coding.{Coding};
-ghost use Rattle.stores.specs.Filled.{added_to, needed_in, states_in};
+ghost use Rattle.stores.specs.Filled.{added_to, needed_in, over, states_in};
 
 use super::head::Head;
 use runs::Offer;
@@ -49,7 +49,7 @@ pub trait Layout: Drop {
         requires lawful { unlawful filled.head.shape coding.largest (told offer) ≡ None }
         requires few { filled.head.count < 4096 }
         requires room { needed_in coding filled (told offer) ≤ length free.old }
-        ensures cells { free.new ≡ added_to coding filled.entry (told offer.entry) ++ drop (needed_in coding filled.entry (told offer.entry)) free.old }
+        ensures cells { free.new ≡ over (added_to coding filled.entry (told offer.entry)) free.old }
         ensures kept { kept self.new filled.entry.head.shape (filled.entry.head.count + 1) (filled.entry.cells.now ++ added_to coding filled.entry (told offer.entry)) }
         ensures states { coding.states filled.entry.head.shape (filled.entry.head.count + 1) (filled.entry.cells.now ++ added_to coding filled.entry (told offer.entry)) ≡ states_in coding filled.entry ++ (state_of (told offer.entry) ∷ []) };
 

@@ -1,7 +1,8 @@
 // Lists of calls in stores.
 ghost use Rattle.std.specs.Prelude.{◌≡◌, length};
 ghost use Rattle.runs.specs.Shapes.{begun};
-ghost use Rattle.stores.specs.Recorded.{cells_in, over, store_led};
+ghost use Rattle.stores.specs.Filled.{over};
+ghost use Rattle.stores.specs.Recorded.{cells_in, store_led};
 ghost use Rattle.stores.specs.Stores.{cells_of, meaning_of};
 
 use super::Store;
