@@ -51,7 +51,7 @@ impl Layout for ChangeLayout {
     }
 
     fn keep(&mut self, filled: Filled<'_>, free: &mut [i32], offer: Offer<'_>) {
-        self.write(free, offer, filled.head.shape);
+        self.write(free, offer);
         let waypoint = Waypoint {
             place: filled.cells.len(),
             values: self.last,

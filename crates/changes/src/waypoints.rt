@@ -31,7 +31,7 @@ impl Waypoints {
     }
 
     // The waypoint from which to walk to a state.
-    pub(crate) fn before(&self, state: usize) -> Waypoint
+    pub(crate) fn preceding(&self, state: usize) -> Waypoint
         requires { state < 4096 }
         ensures { result ≡ waypoint_at self.now.0 (state / 64) }
     {

@@ -33,7 +33,7 @@ impl ChangeLayout {
         requires state { i < filled.head.count }
         ensures { result ≡ place_of filled.entry.cells.now i }
     {
-        let mut at = self.waypoints.before(i).place;
+        let mut at = self.waypoints.preceding(i).place;
         for _state in 64 * (i / 64)..i {
             at += 2 + changes_at(filled.cells, at).len();
         }
@@ -47,7 +47,7 @@ impl ChangeLayout {
         requires variable { v < filled.head.shape.width }
         ensures { result ≡ value_before filled.entry.cells.now v (i + 1) }
     {
-        let waypoint = self.waypoints.before(i);
+        let waypoint = self.waypoints.preceding(i);
         let mut at = waypoint.place;
         let mut value = waypoint.values[v];
         for _state in 64 * (i / 64)..i + 1 {
