@@ -1,1 +1,2 @@
 pub mod RowStates
+pub mod UsedRows

@@ -1,8 +1,9 @@
--- Rows as a recorder: its meaning and its cells. Assumes nothing.
+-- Rows as a recorder: its meaning, its cells, and what a feed does to them. Assumes nothing.
 use Rattle.stores.specs.declared.store.Store.{Store}
+use Rattle.rows.specs.contracts.layout.RowLayoutLayout.TheImpl.{ghosts}
 use Rattle.rows.specs.declared.layout.RowLayout.{RowLayout}
-use Rattle.rows.specs.contracts.layout.RowLayoutLayout.TheImpl as impl
-pub use Rattle.stores.specs.Stores.{cells_of, meaning_of}
+pub use Rattle.stores.specs.Stores.{cells_of, free_in, meaning_of, need_in, refusal_by, written_in}
 
-abbrev pub Rows : Type 0
-Rows = Store RowLayout impl.ghost
+-- the recorder that the code calls `Rows`
+abbrev pub RowStore : Type 0
+RowStore = Store RowLayout ghosts

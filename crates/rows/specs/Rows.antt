@@ -3,12 +3,12 @@ use Rattle.std.specs.Prelude.{◌≡◌, ℕ, zero, suc, ◌+◌, List, [], ◌�
 use Rattle.std.proofs.Common.{sym, ap, ◌∙◌, arith}
 use Rattle.std.proofs.lemmas.List.{append_assoc, append-nil}
 use Rattle.runs.specs.Feeding.{state_of}
-use Rattle.runs.specs.Runs.{Meaning, State}
-use Rattle.runs.specs.declared.calls.Call.{Call}
+use Rattle.runs.specs.Offers.{Offered}
+use Rattle.runs.specs.Runs.{State}
 use Rattle.runs.specs.declared.shape.Shape.{Shape}
+use Rattle.stores.specs.Cells.{need_of}
 use Rattle.stores.specs.Coding.{Coding}
 use Rattle.stores.proofs.LawfulStates.{lawful_width, stay_itself}
-use Rattle.stores.specs.Recorded.{store_led}
 
 -- the largest magnitude of a value in rows
 abbrev pub row_largest : ℕ
@@ -52,6 +52,6 @@ row_coding = record {
   counted = λ shape. length_row_states shape.width;
 }
 
--- what rows of so many cells mean after a list of calls
-abbrev pub rows_led : ℕ → List Call → Meaning → Meaning
-rows_led = store_led row_coding
+-- every lawful state needs a row
+abbrev pub row_need : Shape → Offered → ℕ
+row_need shape = need_of shape row_largest (λ o. shape.width + 1)
