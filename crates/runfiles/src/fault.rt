@@ -5,13 +5,13 @@ ghost use Rattle.runfiles.specs.Faults.{from_record, refusal_of};
 use records::{RecordFault, Refusal};
 
 // The number of the state, from 0, that the record at fault would have been, and why it is none.
-#[derive(Clone, Copy)]
+#[derive(Clone, Copy, PartialEq, Eq, Debug)]
 pub struct RunFault {
     pub state: usize,
     pub cause: Cause,
 }
 
-#[derive(Clone, Copy)]
+#[derive(Clone, Copy, PartialEq, Eq, Debug)]
 pub enum Cause {
     // The record is none of numbers, or the header none of names.
     Record(RecordFault),
@@ -30,11 +30,12 @@ impl From<RecordFault> for RunFault {
     }
 }
 
-impl RunFault {
-    pub fn refusal(self) -> Refusal
-        ensures { result ≡ refusal_of self.cause }
-    {
-        match self.cause {
+// What a caller is told of it.
+impl From<RunFault> for Refusal {
+    ghost from_gives = { λ f r. r ≡ refusal_of f.cause };
+
+    fn from(fault: RunFault) -> Refusal {
+        match fault.cause {
             Cause::Record(fault) => fault.refusal(),
             Cause::Run(refusal, place) => Refusal {
                 number: refusal.number(),

@@ -6,10 +6,6 @@ ghost use Rattle.runs.specs.Shapes.{clamped, shape_refusal};
 
 use super::refusal::Refusal;
 
-const WIDEST: usize = 16;
-
-const LONGEST: u64 = 100_000;
-
 // The number of variables, and the longest stay in ticks.
 #[derive(Clone, Copy, PartialEq, Eq, Debug)]
 pub struct Shape {
@@ -18,14 +14,18 @@ pub struct Shape {
 }
 
 impl Shape {
+    pub const WIDEST: usize = 16;
+
+    pub const LONGEST: u64 = 100_000;
+
     // Tells beforehand whether a run can have this shape.
     pub fn check(self) -> Result<(), Refusal>
         ensures { result ≡ answer (shape_refusal self) }
     {
-        if !(1..=WIDEST).contains(&self.width) {
+        if !(1..=Shape::WIDEST).contains(&self.width) {
             return Err(Refusal::Width);
         }
-        if !(1..=LONGEST).contains(&self.longest) {
+        if !(1..=Shape::LONGEST).contains(&self.longest) {
             return Err(Refusal::Stay);
         }
         Ok(())
@@ -36,8 +36,8 @@ impl Shape {
         ensures { result ≡ clamped self }
     {
         Shape {
-            width: self.width.clamp(1, WIDEST),
-            longest: self.longest.clamp(1, LONGEST),
+            width: self.width.clamp(1, Shape::WIDEST),
+            longest: self.longest.clamp(1, Shape::LONGEST),
         }
     }
 }
