@@ -39,6 +39,6 @@ module _ (shape : Shape) (n : ℕ) (cells : List ℤ) (o : Offered) (whole : pla
         rw (add-one n) (place_more width n cells o.stay o.values whole wide narrow),
         rw (add-one n) (rw wide at is ∙ sym (values_more width n cells o.stay o.values whole wide narrow)),
         all_noted (λ k w. Stands w width now (64 * k)) n here (record { place = 0; values = [] }) olds news few noted
-        (λ k l. stands_still (waypoint_at olds k) (64 * k) (omega arith) (before k l))
-        (λ k e. rw e (stands_still here n (omega arith) (sym whole, recent))),
+            (λ k l. stands_still (waypoint_at olds k) (64 * k) (omega arith) (before k l))
+            (λ k e. rw e (stands_still here n (omega arith) (sym whole, recent))),
       )

@@ -1,6 +1,5 @@
 -- How the cells of a state are written one after the other. Assumes nothing.
 use Rattle.std.proofs.Common.{◌≡◌, ℕ, ◌+◌, ◌<◌, List, [], ◌∷◌, ◌++◌, length, set, ℤ, sym, ap, ◌∙◌, arith}
-use Rattle.std.proofs.lemmas.List.{length_push}
 use Rattle.stores.specs.Filled.{over}
 use Rattle.stores.proofs.PastedCells.{over_set}
 

@@ -1,5 +1,5 @@
 -- How a kind of recorder lays states in cells. Assumes nothing.
-use Rattle.std.specs.Prelude.{◌≡◌, ℕ, ◌+◌, ◌≤◌, List, [], ◌∷◌, ◌++◌, length, ℤ, None}
+use Rattle.std.specs.Prelude.{◌≡◌, ℕ, ◌≤◌, List, [], ◌∷◌, ◌++◌, length, ℤ, None}
 use Rattle.runs.specs.Feeding.{state_of, unlawful}
 use Rattle.runs.specs.Offers.{Offered}
 use Rattle.runs.specs.Runs.{State}

@@ -11,5 +11,5 @@ mod layout;
 mod store;
 
 pub use head::Head;
-pub use layout::{Layout, Filled};
+pub use layout::{Filled, Layout};
 pub use store::Store;

@@ -21,9 +21,10 @@ fn changes_at(cells: &[i32], at: usize) -> &[i32]
 fn value_past(changes: &[i32], v: usize, before: i32) -> i32
     ensures { result ≡ changed_to v changes.now before }
 {
-    changes
-        .iter()
-        .fold(before, |value, cell| Change::from(*cell).value_after(v, value))
+    changes.iter().fold(
+        before,
+        |value, cell| Change::from(*cell).value_after(v, value),
+    )
 }
 
 impl ChangeLayout {

@@ -7,7 +7,7 @@ ghost use Rattle.stores.specs.Stores.{cells_of, free_in, left_in, meaning_of, ne
 
 use super::Store;
 use crate::Layout;
-use runs::{Mark, Recorder, Offer, Refusal, Shape};
+use runs::{Mark, Offer, Recorder, Refusal, Shape};
 
 impl<'a, L: Layout> Recorder for Store<'a, L> {
     const LARGEST: i64 = L::LARGEST;

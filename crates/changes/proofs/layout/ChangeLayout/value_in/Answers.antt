@@ -1,7 +1,7 @@
-use Rattle.std.proofs.Common.{◌≡◌, ◌+◌, ◌*◌, ◌/◌, ◌<◌, ◌≤◌, length, get_or, pos, ap, ◌∙◌, w32, SFits, arith, rules}
+use Rattle.std.proofs.Common.{◌+◌, ◌*◌, ◌/◌, ◌≤◌, length, get_or, pos, ap, ◌∙◌, w32, SFits, arith, rules}
 use Rattle.std.proofs.lemmas.Int.{to_z-of_z}
-use Rattle.changes.specs.Encoding.{changed_at, place_of}
-use Rattle.changes.proofs.Places.{first_value, place_fits, place_next}
+use Rattle.changes.specs.Encoding.{changed_at}
+use Rattle.changes.proofs.Places.{first_value, place_fits}
 use Rattle.changes.proofs.layout.ChangeLayout.value_in.Goals as goal
 
 pub loop-state-init : goal.loop-state-init
@@ -22,5 +22,5 @@ pub overflow_add-at-in-loop-state : goal.overflow_add-at-in-loop-state
 overflow_add-at-in-loop-state c =
     let f = c.args.filled in
     let fits : c.loop-state.at + 2 + changed_at f.cells.now c.loop-state.at ≤ length f.cells.now =
-        rw c.loop-state.invariant.0 (place_fits f.cells.now c.loop-state._state f.head.count (length f.cells.now) c.requires.kept.0 (omega (arith, c.requires.state))) in
+    rw c.loop-state.invariant.0 (place_fits f.cells.now c.loop-state._state f.head.count (length f.cells.now) c.requires.kept.0 (omega (arith, c.requires.state))) in
     omega (arith, fits, c.changes_at-changes.ensures.number, c.ranges.filled)

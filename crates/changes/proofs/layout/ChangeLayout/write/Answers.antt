@@ -1,12 +1,10 @@
-use Rattle.std.proofs.Common.{◌≡◌, ◌+◌, ◌∷◌, ◌<◌, ◌≤◌, [], length, get_or, take, set, pos, nat_abs, Some, None, sym, refl, ap, ◌∙◌, arith, w32, w64, SFits, rules}
+use Rattle.std.proofs.Common.{◌≡◌, ◌+◌, ◌<◌, ◌≤◌, length, get_or, take, set, pos, nat_abs, Some, None, sym, refl, ap, ◌∙◌, arith, w32, w64, SFits, rules}
 use Rattle.std.proofs.lemmas.List.{length_push, length-set, take_all}
 use Rattle.std.proofs.lemmas.Int.{to_z-of_z, to_z_pos}
-use Rattle.stores.specs.Filled.{over}
 use Rattle.stores.proofs.CellValues.{cell_holds}
 use Rattle.stores.proofs.LawfulStates.{magnitude_within}
-use Rattle.stores.proofs.PastedCells.{over_set}
 use Rattle.changes.specs.Encoding.{change_largest, change_of, changes}
-use Rattle.changes.proofs.PackedChanges.{change_fits, changes_few, changes_upto, told_none, told_some}
+use Rattle.changes.proofs.PackedChanges.{change_fits, changes_few, told_none, told_some}
 use Rattle.changes.proofs.WrittenChanges.{none_written, one_written, over_header}
 use Rattle.changes.proofs.layout.ChangeLayout.write.Goals as goal
 use Rattle.changes.proofs.layout.ChangeLayout.write.Goals.{in-Some, in_default}

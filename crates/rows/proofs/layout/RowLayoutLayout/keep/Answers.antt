@@ -1,8 +1,8 @@
-use Rattle.std.proofs.Common.{◌≡◌, ◌+◌, ◌∷◌, [], ◌≤◌, get_or, length, pos, nat_abs, sym, ap, ◌∙◌, arith}
+use Rattle.std.proofs.Common.{◌+◌, ◌∷◌, [], ◌≤◌, get_or, pos, nat_abs, sym, ◌∙◌, arith}
 use Rattle.std.proofs.lemmas.List.{length-set}
 use Rattle.runs.specs.Offers.{told}
 use Rattle.stores.proofs.CellValues.{cell_holds}
-use Rattle.stores.proofs.LawfulStates.{lawful_values, lawful_width, magnitude_within, stay_itself, stay_within_lem}
+use Rattle.stores.proofs.LawfulStates.{lawful_values, lawful_width, magnitude_within, stay_within_lem}
 use Rattle.stores.proofs.PastedCells.{over_all, over_filled, over_next, over_set}
 use Rattle.rows.specs.Rows.{row_largest}
 use Rattle.rows.proofs.RowStates.{row_states_more}
