@@ -86,7 +86,7 @@ impl CriterionFault {
                 number: 12,
                 place: 0,
             },
-            CriterionFault::Header(fault) => fault.refusal(),
+            CriterionFault::Header(fault) => Refusal::from(fault),
             CriterionFault::Text(breach) => Refusal {
                 number: breach.rule.number(),
                 place: breach.place,

@@ -1,46 +1,43 @@
 -- A name, looked for among others from the left. Assumes nothing.
-use Rattle.std.proofs.Common.{◌≡◌, ℕ, ◌+◌, ◌<◌, ◌≤◌, Bool, false, cond, not, ◌&&◌, ◌||◌, List, [], ◌∷◌, ◌++◌, length, take, drop, Some, None, sym, ap, ◌∙◌, arith}
-use Rattle.std.specs.List.{slice_get}
-use Rattle.std.specs.Str.{bytes_eq}
-use Rattle.std.proofs.lemmas.List.{at_drop_all, length-take}
-use Rattle.records.specs.Headers.{among, column_from, first_bad, lawful_name}
-use Rattle.records.proofs.Nth.{nth_take, drop_some, drop_none, take_some}
+use Rattle.std.proofs.Common.{◌≡◌, ℕ, suc, ◌+◌, ◌<◌, Bool, true, false, cond, not, ltb, ◌||◌, List, [], ◌∷◌, ◌++◌, map, length, get_or, take, drop, Some, None, Option, sym, refl, ap, ◌∙◌, arith, bytes_eq, Bor}
+use Rattle.std.specs.List.{list_any, position_or_len}
+use Rattle.std.proofs.lemmas.List.{at_drop_more, map_push, take_more}
+use Rattle.records.specs.Headers.{among, column_from, first_bad, may_stand}
 
--- among the first n of some names, from the i-th on
-module _ (ns : List (List ℕ)) (n i : ℕ) (name : List ℕ) where
-  pub among_next : (m : List ℕ) (same : Bool) → i < n → Some m ≡ slice_get ns i → same ≡ bytes_eq m name → among (drop i (take n ns)) name ≡ (same || among (drop (i + 1) (take n ns)) name)
-  among_next m same h e is =
-      ap (λ ms. among ms name) (drop_some (take n ns) i m (e ∙ sym (nth_take ns n i h)))
-      ∙ ap (λ b. b || among (drop (i + 1) (take n ns)) name) (sym is)
+-- names that are lent, by their bytes
+pub among_lent : (ns : List (Bor (List ℕ))) (name : List ℕ) → list_any (λ n. bytes_eq n.now name) ns ≡ among (map (λ n. n.now) ns) name
+among_lent [] name = refl
+among_lent (n ∷ ns) name = ap (λ b. bytes_eq n.now name || b) (among_lent ns name)
 
-  pub among_past : i < n → None ≡ slice_get ns i → among (drop i (take n ns)) name ≡ false
-  among_past h e = ap (λ ms. among ms name) (drop_none (take n ns) i (e ∙ sym (nth_take ns n i h)))
+-- the place where a test passes first, counted on from i
+abbrev counted : ℕ → ℕ → ℕ → Option ℕ
+counted i place end = cond (ltb place end) (Some (i + place)) None
 
-  pub among_end : n ≤ i → among (drop i (take n ns)) name ≡ false
-  among_end h = at_drop_all (λ ms. among ms name) (take n ns) i (omega (arith, length-take n ns))
+further : (i place end : ℕ) → counted i (1 + place) (suc end) ≡ counted (i + 1) place end
+further i place end = grind arith
 
-module _ (ns : List (List ℕ)) (i : ℕ) (name : List ℕ) where
-  pub column_next : (m : List ℕ) (same : Bool) → Some m ≡ slice_get ns i → same ≡ bytes_eq m name → column_from (drop i ns) name i ≡ cond same (Some i) (column_from (drop (i + 1) ns) name (i + 1))
-  column_next m same e is =
-      ap (λ ms. column_from ms name i) (drop_some ns i m e)
-      ∙ ap (λ b. cond b (Some i) (column_from (drop (i + 1) ns) name (i + 1))) (sym is)
+column_from_position : (ns : List (Bor (List ℕ))) (name : List ℕ) (i : ℕ) → counted i (position_or_len (λ n. bytes_eq n.now name) ns) (length ns) ≡ column_from (map (λ n. n.now) ns) name i
+column_from_position [] name i = refl
+column_from_position (n ∷ ns) name i = by (bytes_eq n.now name) (column_from_position ns name (i + 1))
+  where
+    by : (same : Bool) → counted (i + 1) (position_or_len (λ n. bytes_eq n.now name) ns) (length ns) ≡ column_from (map (λ n. n.now) ns) name (i + 1)
+        → counted i (cond (not same) (1 + position_or_len (λ n. bytes_eq n.now name) ns) 0) (suc (length ns)) ≡ cond same (Some i) (column_from (map (λ n. n.now) ns) name (i + 1))
+    by true rest = grind arith
+    by false rest = further i _ _ ∙ rest
 
-  pub column_past : None ≡ slice_get ns i → column_from (drop i ns) name i ≡ None
-  column_past e = ap (λ ms. column_from ms name i) (drop_none ns i e)
+pub column_at_position : (ns : List (Bor (List ℕ))) (name : List ℕ) → cond (ltb (position_or_len (λ n. bytes_eq n.now name) ns) (length ns)) (Some (position_or_len (λ n. bytes_eq n.now name) ns)) None ≡ column_from (map (λ n. n.now) ns) name 0
+column_at_position ns name = from_first _ _ ∙ column_from_position ns name 0
+  where
+    from_first : (place end : ℕ) → cond (ltb place end) (Some place) None ≡ counted 0 place end
+    from_first place end = grind arith
 
-  pub column_end : length ns ≤ i → column_from (drop i ns) name i ≡ None
-  column_end h = at_drop_all (λ ms. column_from ms name i) ns i h
+module _ (xs : List (Bor (List ℕ))) where
+  -- what is found from the i-th field on, where those before it may stand
+  abbrev pub bad_from : ℕ → Option ℕ
+  bad_from i = first_bad (map (λ x. x.now) (drop i xs)) (map (λ x. x.now) (take i xs)) i
 
--- the fields before the i-th may stand where they do
-module _ (ns : List (List ℕ)) (i : ℕ) where
-  pub bad_next : (m : List ℕ) (lawful : Bool) → Some m ≡ slice_get ns i → lawful ≡ (lawful_name m && not (among (take i ns) m)) → first_bad (drop i ns) (take i ns) i ≡ cond lawful (first_bad (drop (i + 1) ns) (take (i + 1) ns) (i + 1)) (Some i)
-  bad_next m lawful e is =
-      ap (λ ms. first_bad ms (take i ns) i) (drop_some ns i m e)
-      ∙ ap (λ b. cond b (first_bad (drop (i + 1) ns) (take i ns ++ (m ∷ [])) (i + 1)) (Some i)) (sym is)
-      ∙ ap (λ before. cond lawful (first_bad (drop (i + 1) ns) before (i + 1)) (Some i)) (sym (take_some ns i m e))
-
-  pub bad_past : None ≡ slice_get ns i → first_bad (drop i ns) (take i ns) i ≡ None
-  bad_past e = ap (λ ms. first_bad ms (take i ns) i) (drop_none ns i e)
-
-  pub bad_end : length ns ≤ i → first_bad (drop i ns) (take i ns) i ≡ None
-  bad_end h = at_drop_all (λ ms. first_bad ms (take i ns) i) ns i h
+  pub bad_next : (i : ℕ) (x : Bor (List ℕ)) (stands : Bool) → i < length xs → stands ≡ may_stand (map (λ x. x.now) (take i xs)) (get_or xs i x).now → bad_from i ≡ cond stands (bad_from (i + 1)) (Some i)
+  bad_next i x stands inside is =
+      at_drop_more (λ ys. first_bad (map (λ x. x.now) ys) (map (λ x. x.now) (take i xs)) i) xs i x inside
+      ∙ ap (λ b. cond b (first_bad (map (λ x. x.now) (drop (i + 1) xs)) (map (λ x. x.now) (take i xs) ++ ((get_or xs i x).now ∷ [])) (i + 1)) (Some i)) (sym is)
+      ∙ ap (λ before. cond stands (first_bad (map (λ x. x.now) (drop (i + 1) xs)) before (i + 1)) (Some i)) (sym (ap (map (λ x. x.now)) (take_more xs i x inside) ∙ map_push (λ x. x.now) (take i xs) (get_or xs i x)))

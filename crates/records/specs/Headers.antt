@@ -1,12 +1,12 @@
 -- What a header is: `stay`, and then 1 to 16 names. Assumes nothing.
-use Rattle.std.specs.Prelude.{ℕ, ◌+◌, Bool, true, false, cond, not, ◌&&◌, ◌||◌, List, [], ◌∷◌, ◌++◌, length, drop, is_ok, Some, None, Ok, Err, codes, Option, Result, ◌==◌, nat_le}
+use Rattle.std.specs.Prelude.{ℕ, ◌+◌, Bool, cond, not, ◌&&◌, ◌||◌, List, [], ◌∷◌, ◌++◌, length, drop, is_ok, Some, None, Ok, Err, codes, Option, Result, ◌==◌, nat_le}
 use Rattle.std.specs.Option.{unwrap_or}
 use Rattle.std.specs.Int.{is_in_range}
-use Rattle.std.specs.List.{slice_get}
+use Rattle.std.specs.List.{list_all, list_any, slice_get}
 use Rattle.std.specs.Str.{bytes_eq}
 use Rattle.records.specs.Bytes.{quote}
 use Rattle.records.specs.Cursor.{Cursor, Seen}
-use Rattle.records.specs.Firsts.{Firsts, firsts_of}
+use Rattle.records.specs.Firsts.{Firsts, firsts_of, kept_fields}
 use Rattle.records.specs.RecordFields.{Row, row, behind_row, gathered}
 use Rattle.records.specs.declared.fault.Position.{Position}
 use Rattle.records.specs.declared.fault.RecordFault.{RecordFault}
@@ -14,44 +14,44 @@ use Rattle.records.specs.declared.fault.RecordFault.TheVariants as fault
 
 -- a byte list holds a byte
 abbrev pub holds : List ℕ → ℕ → Bool
-holds [] b = false
-holds (x ∷ xs) b = x == b || holds xs b
+holds bs b = list_any (λ x. x == b) bs
 
 -- a header field, in which no quote may stand
-abbrev pub title : Seen → Result (Option Seen) RecordFault
-title s = cond (holds s.text quote) (Err (fault.Quote s.at)) (Ok (Some s))
+abbrev pub title : Seen → Result Seen RecordFault
+title s = cond (holds s.text quote) (Err (fault.Quote s.at)) (Ok s)
 
 abbrev pub titles_at : List ℕ → Cursor → Result (Row Seen) RecordFault
-titles_at bs c = row title (λ s. s.next) bs c
+titles_at bs c = row title bs c
 
 -- what a name is made of: the printable characters of ASCII, but for braces
 abbrev pub name_byte : ℕ → Bool
 name_byte b = is_in_range 0x20 0x7E b && not (b == 0x7B || b == 0x7D)
 
 abbrev pub name_bytes : List ℕ → Bool
-name_bytes [] = true
-name_bytes (b ∷ bs) = name_byte b && name_bytes bs
+name_bytes bs = list_all name_byte bs
 
 abbrev pub lawful_name : List ℕ → Bool
 lawful_name bs = is_in_range 1 64 (length bs) && name_bytes bs
 
 -- a name stands among others
 abbrev pub among : List (List ℕ) → List ℕ → Bool
-among [] name = false
-among (n ∷ ns) name = bytes_eq n name || among ns name
-
--- the number of the first name that is unlawful or stood before, where `before` are the names to the left, and i is their number
-abbrev pub first_bad : List (List ℕ) → List (List ℕ) → ℕ → Option ℕ
-first_bad [] before i = None
-first_bad (n ∷ ns) before i = cond (lawful_name n && not (among before n)) (first_bad ns (before ++ (n ∷ [])) (i + 1)) (Some i)
+among ns name = list_any (λ n. bytes_eq n name) ns
 
 abbrev pub stay_name : List ℕ
 stay_name = codes "stay"
 
--- the number of the first field that may not stand there: the first is `stay`, and the others are names
+-- a field may stand behind these: the first is `stay`, and each other is a lawful name that did not stand before
+abbrev pub may_stand : List (List ℕ) → List ℕ → Bool
+may_stand [] name = bytes_eq name stay_name
+may_stand (n ∷ ns) name = lawful_name name && not (among (n ∷ ns) name)
+
+-- the number of the first field that may not stand where it does, behind the fields `before`, where i is the number of the next one
+abbrev pub first_bad : List (List ℕ) → List (List ℕ) → ℕ → Option ℕ
+first_bad [] before i = None
+first_bad (n ∷ ns) before i = cond (may_stand before n) (first_bad ns (before ++ (n ∷ [])) (i + 1)) (Some i)
+
 abbrev pub bad_title : List (List ℕ) → Option ℕ
-bad_title [] = None
-bad_title (n ∷ ns) = cond (bytes_eq n stay_name) (first_bad ns (n ∷ []) 1) (Some 0)
+bad_title ns = first_bad ns [] 0
 
 abbrev pub named_by : Firsts (List ℕ) → Option ℕ → Result (List (List ℕ)) RecordFault
 named_by f (Some i) = Err (fault.Name (unwrap_or (slice_get f.places i) f.at))
@@ -59,7 +59,7 @@ named_by f None = Ok (drop 1 f.values)
 
 -- the names of a header with these fields: their number is looked at first, then each from the left
 abbrev pub names_by : Firsts (List ℕ) → Result (List (List ℕ)) RecordFault
-names_by f = cond (is_in_range 2 17 f.count) (named_by f (bad_title f.values)) (Err (fault.Width f.at))
+names_by f = cond (is_in_range 2 kept_fields f.count) (named_by f (bad_title f.values)) (Err (fault.Width f.at))
 
 abbrev pub names_of : Result (Firsts (List ℕ)) RecordFault → Result (List (List ℕ)) RecordFault
 names_of (Err e) = Err e

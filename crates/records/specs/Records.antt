@@ -16,15 +16,15 @@ use Rattle.records.specs.declared.numbers.Record.{Record}
 use Rattle.records.specs.declared.numeral.Numeral.{Numeral}
 
 -- a number field; its value is None beyond 10^9
-abbrev pub entry_by : Seen → Option Numeral → Result (Option Entry) RecordFault
+abbrev pub entry_by : Seen → Option Numeral → Result Entry RecordFault
 entry_by s None = Err (fault.Numeral s.at)
-entry_by s (Some n) = Ok (Some (record { at = s.at; value = limited 1000000000 n; next = s.next }))
+entry_by s (Some n) = Ok (record { at = s.at; value = limited 1000000000 n })
 
-abbrev pub entry : Seen → Result (Option Entry) RecordFault
+abbrev pub entry : Seen → Result Entry RecordFault
 entry s = entry_by s (numeral s.text)
 
 abbrev pub entries_at : List ℕ → Cursor → Result (Row Entry) RecordFault
-entries_at bs c = row entry (λ e. e.next) bs c
+entries_at bs c = row entry bs c
 
 -- the first field beyond the limit
 abbrev pub beyond : List Entry → Option Position
@@ -83,7 +83,3 @@ abbrev pub told_record : Result (Option Record) RecordFault → Result (Option (
 told_record (Err f) = Err f
 told_record (Ok None) = Ok None
 told_record (Ok (Some r)) = Ok (Some (numbers_of r))
-
-abbrev pub told_draft : Result Draft RecordFault → Result Drafted RecordFault
-told_draft (Err f) = Err f
-told_draft (Ok d) = Ok (drafted d)

@@ -1,5 +1,6 @@
 -- The number and the place of each fault of a record or a header. Assumes nothing.
-use Rattle.std.specs.Prelude.{ℕ}
+use Rattle.std.specs.Prelude.{ℕ, List, ◌∷◌, ◌++◌, decimal}
+use Rattle.records.specs.Bytes.{comma}
 use Rattle.records.specs.Cursor.{start}
 use Rattle.records.specs.declared.fault.Position.{Position}
 use Rattle.records.specs.declared.fault.RecordFault.{RecordFault}
@@ -27,3 +28,7 @@ position_of (Name p) = p
 
 abbrev pub refusal : RecordFault → Refusal
 refusal f = record { number = number_of f; place = (position_of f).byte }
+
+-- a refusal as it is printed: its number and its place
+abbrev pub refusal_text : Refusal → List ℕ
+refusal_text r = decimal r.number ++ (comma ∷ decimal r.place)

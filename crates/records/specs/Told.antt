@@ -35,15 +35,6 @@ titles h = (lent (firsts h.kept)).values
 abbrev pub names : Header → List (List ℕ)
 names h = drop 1 (titles h)
 
-abbrev pub told_title : Result (Option Field) RecordFault → Result (Option Seen) RecordFault
-told_title (Err f) = Err f
-told_title (Ok None) = Ok None
-told_title (Ok (Some f)) = Ok (Some (seen_field f))
-
-abbrev pub told_titles : Result (Kept (Bor (List ℕ))) RecordFault → Result (Firsts (List ℕ)) RecordFault
-told_titles (Err f) = Err f
-told_titles (Ok k) = Ok (lent (firsts k))
-
 abbrev pub told_header : Result Header RecordFault → Result (List (List ℕ)) RecordFault
 told_header (Err f) = Err f
 told_header (Ok h) = Ok (names h)

@@ -1,8 +1,8 @@
 // One field cut off the front of some bytes, by RFC 4180.
-ghost use Rattle.std.specs.Prelude.{◌≡◌, ◌<◌, ◌≤◌, true, false, length, drop, IfSome};
+ghost use Rattle.std.specs.Prelude.{◌≡◌, ◌+◌, ◌≤◌, true, false, length, IfSome};
 ghost use Rattle.std.specs.List.{prefix_len};
 ghost use Rattle.records.specs.Bytes.{text_data, quotable};
-ghost use Rattle.records.specs.Fields.{closing, following, separator, is_field, is_end, opens, size, cut, Lies};
+ghost use Rattle.records.specs.Fields.{closing, following, separator, opens, size, cut, Lies};
 
 // What follows a field: a field of the same record, a record, or nothing.
 #[derive(Clone, Copy, PartialEq, Eq, Debug)]
@@ -12,24 +12,11 @@ pub enum Next {
     End,
 }
 
-impl Next {
-    pub(crate) fn is_field(self) -> bool
-        ensures { result ≡ is_field self }
-    {
-        matches!(self, Next::Field)
-    }
-
-    pub(crate) fn is_end(self) -> bool
-        ensures { result ≡ is_end self }
-    {
-        matches!(self, Next::End)
-    }
-}
-
 // A field's size in bytes, its quotes among them, and what follows it.
 #[derive(Clone, Copy)]
 pub struct Cut {
     pub size: usize,
+    // A field has quotes or not, and has a size in either case.
     pub quoted: bool,
     pub next: Next,
 }
@@ -51,33 +38,26 @@ fn plain_size(bytes: &[u8]) -> usize
     ensures value { result ≡ prefix_len text_data bytes.now }
     ensures bound { result ≤ length bytes.now }
 {
-    for (i, b) in bytes.iter().enumerate() {
-        if !is_text_data(*b) {
-            return i;
-        }
-    }
-    bytes.len()
+    bytes.iter().take_while(|b| is_text_data(**b)).count()
 }
 
-// The size of the field whose opening quote stands in front, where another quote closes it.
-fn quoted_size(bytes: &[u8]) -> Option<usize>
-    requires { 0 < length bytes.now }
-    ensures value { result ≡ closing (drop 1 bytes.now) false 1 }
-    ensures bound { IfSome result (λ n. (2 ≤ n) × (n ≤ length bytes.now)) }
+// The size of the field whose opening quote stands before these bytes, where another quote closes it.
+fn quoted_size(inside: &[u8]) -> Option<usize>
+    ensures value { result ≡ closing inside.now false 1 }
+    ensures bound { IfSome result (λ n. (2 ≤ n) × (n ≤ length inside.now + 1)) }
 {
     // A quote that came just before: it closes the field unless another follows.
     let mut quote = false;
-    for i in 1..bytes.len() {
-        let b = bytes[i];
-        if b == b'"' {
+    for (i, b) in inside.iter().enumerate() {
+        if *b == b'"' {
             quote = !quote;
         } else if quote {
-            return Some(i);
-        } else if !is_quotable(b) {
+            return Some(i + 1);
+        } else if !is_quotable(*b) {
             return None;
         }
     }
-    if quote { Some(bytes.len()) } else { None }
+    if quote { Some(inside.len() + 1) } else { None }
 }
 
 fn next_of(bytes: &[u8]) -> Option<Next>
@@ -93,8 +73,7 @@ fn next_of(bytes: &[u8]) -> Option<Next>
 }
 
 fn is_quoted(bytes: &[u8]) -> bool
-    ensures value { result ≡ opens bytes.now }
-    ensures some { result ≡ true → 0 < length bytes.now }
+    ensures { result ≡ opens bytes.now }
 {
     matches!(bytes, [b'"', ..])
 }
@@ -103,10 +82,9 @@ fn field_size(bytes: &[u8]) -> Option<usize>
     ensures value { result ≡ size bytes.now }
     ensures bound { IfSome result (λ n. (n ≤ length bytes.now) × (opens bytes.now ≡ true → 2 ≤ n)) }
 {
-    if is_quoted(bytes) {
-        quoted_size(bytes)
-    } else {
-        Some(plain_size(bytes))
+    match bytes {
+        [b'"', inside @ ..] => quoted_size(inside),
+        _ => Some(plain_size(bytes)),
     }
 }
 

@@ -1,7 +1,9 @@
 // Where a field stands, and why a reading is refused.
-ghost use Rattle.std.specs.Prelude.{◌≡◌};
-ghost use Rattle.records.specs.Refusals.{number_of, position_of, refusal};
+ghost use Rattle.std.specs.Prelude.{◌≡◌, Some};
+ghost use Rattle.records.specs.Refusals.{number_of, position_of, refusal, refusal_text};
 ghost use Rattle.records.specs.declared.fault.RecordFault.TheVariants.{Text};
+
+use std::fmt;
 
 // Where a field stands: the number of its record in the file, its own number in that record, and the index of its first byte, all from 0.
 #[derive(Clone, Copy, PartialEq, Eq, Debug)]
@@ -52,7 +54,7 @@ impl From<TextFault> for RecordFault {
     }
 }
 
-// What a caller is told of a refusal: its number, and the index of a byte of the file.
+// What a caller is told of a refusal: its number, which the format lays down, and the index of a byte of the file.
 #[derive(Clone, Copy, PartialEq, Eq, Debug)]
 pub struct Refusal {
     pub number: u8,
@@ -82,13 +84,26 @@ impl RecordFault {
             RecordFault::Width(_) | RecordFault::Name(_) => 9,
         }
     }
+}
 
-    pub fn refusal(self) -> Refusal
-        ensures { result ≡ refusal self }
-    {
+impl From<RecordFault> for Refusal {
+    ghost from_gives = { λ f r. r ≡ refusal f };
+
+    fn from(fault: RecordFault) -> Refusal {
         Refusal {
-            number: self.number(),
-            place: self.at().byte,
+            number: fault.number(),
+            place: fault.at().byte,
         }
+    }
+}
+
+// As in a line of a statement: the number and the place.
+impl fmt::Display for Refusal {
+    ghost output = { λ r. Some (refusal_text r) };
+
+    fn fmt<W: fmt::Write>(&self, f: &mut fmt::Formatter<W>) -> fmt::Result {
+        let number = self.number;
+        let place = self.place;
+        write!(f, "{number},{place}")
     }
 }

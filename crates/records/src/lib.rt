@@ -1,8 +1,6 @@
 // Run files by RFC 4180, read over the caller's bytes: nothing is copied and nothing is allocated.
 #![tactic(auto)]
 
-// A byte among others.
-mod bytes;
 // Whole numerals.
 mod numeral;
 // Where a field stands, and why a reading is refused.
@@ -20,7 +18,6 @@ mod heading;
 // A data record: the stay, and then the values.
 mod numbers;
 
-pub use bytes::contains_byte;
 pub use cut::Next;
 pub use fault::{Position, RecordFault, Refusal, TextFault};
 pub use fields::{Field, Fields};

@@ -1,5 +1,4 @@
 // A data record: the stay, and then the values.
-use super::cut::Next;
 use super::fault::Position;
 use super::kept::Kept;
 
@@ -17,7 +16,6 @@ pub struct Record {
 pub struct Entry {
     pub at: Position,
     pub value: Option<i64>,
-    pub next: Next,
 }
 
 // A record that is being read, and the first field of it so far that is beyond the limit.

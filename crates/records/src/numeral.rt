@@ -1,10 +1,11 @@
 // Whole numerals. Whoever reads one tests a limit of its own.
-ghost use Rattle.std.specs.Prelude.{◌≡◌, ◌<◌, true, length};
-ghost use Rattle.records.specs.Numerals.{negative, signed, unsigned, magnitude, numeral, limited};
+ghost use Rattle.std.specs.Prelude.{◌≡◌};
+ghost use Rattle.records.specs.Numerals.{negative, unsigned, magnitude, numeral, limited};
 
 // An optional sign and digits, any number of zeros in front. A magnitude from 2^64 on is held as 2^64 - 1.
 #[derive(Clone, Copy, PartialEq, Eq, Debug)]
 pub struct Numeral {
+    // A field of its own, since no signed type of 64 bits holds every magnitude with its sign.
     pub negative: bool,
     pub magnitude: u64,
 }
@@ -35,26 +36,16 @@ impl Numeral {
 fn is_negative(text: &[u8]) -> bool
     ensures { result ≡ negative text.now }
 {
-    match text {
-        [b'-', ..] => true,
-        _ => false,
-    }
-}
-
-fn is_signed(text: &[u8]) -> bool
-    ensures value { result ≡ signed text.now }
-    ensures some { result ≡ true → 0 < length text.now }
-{
-    match text {
-        [b'+' | b'-', ..] => true,
-        _ => false,
-    }
+    matches!(text, [b'-', ..])
 }
 
 fn after_sign(text: &[u8]) -> &[u8]
     ensures { result.now ≡ unsigned text.now }
 {
-    if is_signed(text) { &text[1..] } else { text }
+    match text {
+        [b'+' | b'-', rest @ ..] => rest,
+        _ => text,
+    }
 }
 
 // What digits write, or None where there is no digit or another byte.

@@ -1,5 +1,5 @@
 // What data records say.
-use super::expect::{at, header_of, record_of, refused_as, same_place};
+use super::expect::{at, header_of, record_of, refused_as};
 use records::{Fields, Record};
 use std::process::Abort;
 use std::test::Fail;
@@ -76,7 +76,7 @@ fn fields_of_a_record(rt: HostRuntime) -> Result<(), Fail> {
     let mut fields = Fields::over(b"stay,a,b\r\n-1,\"20\",+3");
     let _ = header_of(&mut fields)?;
     let record = record_of(&mut fields)?;
-    same_place(&rt, record.at(), at(1, 0, 10));
+    assert_eq!(rt; record.at(), at(1, 0, 10));
     assert_eq!(rt; record.count(), 3);
     says(&rt, 0, &record, 1, &[(0, -1, 10), (1, 20, 13), (2, 3, 18)]);
     says_nothing_of(&rt, 0, &record, &[3, 4, 16, 17, usize::MAX]);

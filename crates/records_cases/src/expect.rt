@@ -7,29 +7,22 @@ pub fn at(row: usize, column: usize, byte: usize) -> Position {
     Position { row, column, byte }
 }
 
-pub fn same_place(rt: &impl Abort, place: Position, expected: Position) {
-    assert_eq!(rt; place.row, expected.row, "the row");
-    assert_eq!(rt; place.column, expected.column, "the column");
-    assert_eq!(rt; place.byte, expected.byte, "the byte");
-}
-
 // `case` says which of several like examples it is, where one fails.
 pub fn refused_as(rt: &impl Abort, case: usize, fault: RecordFault, number: u8, place: usize) {
-    assert_eq!(rt; fault.refusal(), Refusal { number, place }, "case {case}");
+    assert_eq!(rt;
+        Refusal::from(fault),
+        Refusal { number, place },
+        "case {case}"
+    );
 }
 
 fn unexpected(fault: RecordFault) -> Fail {
-    let refusal = fault.refusal();
-    let number = refusal.number;
-    let place = refusal.place;
-    Fail::new(format_args!("refused: {number} at {place}"))
+    let refusal = Refusal::from(fault);
+    Fail::new(format_args!("refused: {refusal}"))
 }
 
 pub fn header_of<'a>(fields: &mut Fields<'a>) -> Result<Header<'a>, Fail> {
-    match fields.header() {
-        Ok(header) => Ok(header),
-        Err(fault) => Err(unexpected(fault)),
-    }
+    fields.header().map_err(unexpected)
 }
 
 pub fn record_of(fields: &mut Fields) -> Result<Record, Fail> {
@@ -48,10 +41,7 @@ pub fn ended(rt: &impl Abort, case: usize, fields: &mut Fields) {
 }
 
 fn has_more(fields: &mut Fields) -> Result<bool, Refusal> {
-    match fields.next_record() {
-        Ok(record) => Ok(record.is_some()),
-        Err(fault) => Err(fault.refusal()),
-    }
+    Ok(fields.next_record()?.is_some())
 }
 
 // The header is refused so, and again at a second call, since a refusal leaves the reader where it is.

@@ -1,5 +1,5 @@
 // Whole files: small ones read to their end, and the longest.
-use super::expect::{at, ended, header_of, header_refused, record_of, same_place};
+use super::expect::{at, ended, header_of, header_refused, record_of};
 use records::{Fields, Record};
 use std::alloc::{AllocError, Global};
 use std::process::Abort;
@@ -7,7 +7,7 @@ use std::test::Fail;
 
 // The record begins at this row and byte, and has a stay and two values.
 fn three(rt: &impl Abort, record: &Record, row: usize, byte: usize, numbers: [i64; 3]) {
-    same_place(rt, record.at(), at(row, 0, byte));
+    assert_eq!(rt; record.at(), at(row, 0, byte));
     assert_eq!(rt; record.count(), 3);
     for (field, number) in numbers.iter().enumerate() {
         assert_eq!(rt; record.number(field), Some(*number), "field {field}");

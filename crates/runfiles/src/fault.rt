@@ -36,7 +36,7 @@ impl From<RunFault> for Refusal {
 
     fn from(fault: RunFault) -> Refusal {
         match fault.cause {
-            Cause::Record(fault) => fault.refusal(),
+            Cause::Record(fault) => fault.into(),
             Cause::Run(refusal, place) => Refusal {
                 number: refusal.number(),
                 place,

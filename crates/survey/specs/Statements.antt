@@ -4,6 +4,7 @@ use Rattle.std.specs.List.{flat_map}
 use Rattle.std.specs.Fmt.{signed_decimal}
 use Rattle.records.specs.Bytes.{comma, quote}
 use Rattle.records.specs.Headers.{holds}
+use Rattle.records.specs.Refusals.{refusal_text}
 use Rattle.records.specs.declared.fault.Refusal.{Refusal}
 use Rattle.runfiles.specs.Faults.{refusal_of}
 use Rattle.runfiles.specs.declared.fault.RunFault.{RunFault}
@@ -42,7 +43,7 @@ abbrev pub held_lines : Surveyed → List ℕ
 held_lines s = codes "columns" ++ column_names s.names ++ sum_lines s.summary s.free ++ range_lines (s.summary.states == 0) s.names s.summary.ranges
 
 abbrev pub refused_line : Refusal → List ℕ
-refused_line r = codes "refused," ++ (decimal r.number ++ (codes "," ++ (decimal r.place ++ crlf)))
+refused_line r = codes "refused," ++ (refusal_text r ++ crlf)
 
 abbrev pub statement_by : Result Surveyed RunFault → List ℕ
 statement_by (Ok s) = held_lines s

@@ -7,7 +7,7 @@ ghost use Rattle.survey.specs.Told.{surveyed};
 
 use super::range::Range;
 use super::whole::Survey;
-use records::{Header, Refusal, contains_byte};
+use records::{Header, Refusal};
 use std::alloc::{AllocError, Global};
 
 // The cells that a run file is kept in.
@@ -17,7 +17,7 @@ const CELLS: usize = 16_384;
 fn push_name(out: &mut Vec<u8>, name: &[u8]) -> Result<(), AllocError>
     ensures { OnOk result (out.new.items ≡ out.old.items ++ field_text name.now) }
 {
-    if contains_byte(name, b',') {
+    if name.contains(&b',') {
         out.push(b'"')?;
         out.extend_from_slice(name)?;
         out.push(b'"')?;
@@ -79,9 +79,7 @@ fn sum_text(heap: Global, survey: &Survey) -> Result<String, AllocError>
 fn refused_text(heap: Global, refusal: Refusal) -> Result<String, AllocError>
     ensures { IfOk result (λ s. string_bytes s ≡ refused_line refusal) }
 {
-    let number = refusal.number;
-    let place = refusal.place;
-    format!(in heap; "refused,{number},{place}\r\n")
+    format!(in heap; "refused,{refusal}\r\n")
 }
 
 fn push_ranges(out: &mut Vec<u8>, heap: Global, survey: &Survey) -> Result<(), AllocError>

@@ -42,7 +42,7 @@ impl<'a> Fields<'a> {
         };
         let text = text_of(rest, cut);
         self.at = next_place(bytes, at, cut);
-        self.ended = cut.next.is_end();
+        self.ended = cut.next == Next::End;
         Ok(Some(Field {
             text,
             quoted: cut.quoted,
@@ -61,7 +61,7 @@ fn text_of<'a>(rest: &'a [u8], cut: Cut) -> &'a [u8]
     if cut.quoted {
         &rest[1..end - 1]
     } else {
-        &rest[0..end]
+        &rest[..end]
     }
 }
 
@@ -76,9 +76,9 @@ fn next_place(bytes: &[u8], at: Position, cut: Cut) -> Position
     let behind = at.byte + cut.size;
     match cut.next {
         Next::Field => Position {
-            row: at.row,
             column: at.column + 1,
             byte: behind + 1,
+            ..at
         },
         Next::Record => Position {
             row: at.row + 1,
@@ -86,9 +86,8 @@ fn next_place(bytes: &[u8], at: Position, cut: Cut) -> Position
             byte: behind + 2,
         },
         Next::End => Position {
-            row: at.row,
-            column: at.column,
             byte: bytes.len(),
+            ..at
         },
     }
 }

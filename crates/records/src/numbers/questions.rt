@@ -25,10 +25,10 @@ impl Record {
     pub fn number(&self, field: usize) -> Option<i64>
         ensures { result ≡ slice_get (numbers_of self.now).values field }
     {
-        self.fields.value(field)
+        self.fields.values().get(field).copied()
     }
 
-    // The number in the first field.
+    // The number in the first field. A record that was read has one, so callers have no case of None; 0 stands for it.
     pub fn stay(&self) -> i64
         ensures { result ≡ stay_of (numbers_of self.now) }
     {
@@ -39,12 +39,9 @@ impl Record {
     pub fn values(&self) -> &[i64]
         ensures { result.now ≡ values_of (numbers_of self.now) }
     {
-        let numbers: &[i64] = &self.fields.values;
-        let end = self.fields.len();
-        if end > 1 {
-            &numbers[1..end]
-        } else {
-            &numbers[0..0]
+        match self.fields.values() {
+            [] => &[],
+            [_, values @ ..] => values,
         }
     }
 
@@ -52,7 +49,7 @@ impl Record {
     pub fn place(&self, field: usize) -> Option<Position>
         ensures { result ≡ slice_get (numbers_of self.now).places field }
     {
-        self.fields.place(field)
+        self.fields.places().get(field).copied()
     }
 
     // Refuses a record that has another number of fields than the stay and `width` values.

@@ -16,9 +16,9 @@ returns-in_err-next c =
 
 pub returns : goal.returns
 returns c = record {
-  value = rw c.is_quoted.ensures.value (sym (cut_by c.args.bytes.now _ _ c.in_ok-size.ensures.value c.in_ok-next.ensures.value));
+  value = rw c.is_quoted.ensures (sym (cut_by c.args.bytes.now _ _ c.in_ok-size.ensures.value c.in_ok-next.ensures.value));
   bound = record {
     within = omega (arith, c.in_ok-size.ensures.bound.0, simp (take_rest, length-drop) at c.in_ok-next.ensures.bound);
-    quotes = λ q. c.in_ok-size.ensures.bound.1 (sym c.is_quoted.ensures.value ∙ q);
+    quotes = λ q. c.in_ok-size.ensures.bound.1 (sym c.is_quoted.ensures ∙ q);
   };
 }

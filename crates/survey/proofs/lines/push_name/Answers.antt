@@ -10,6 +10,6 @@ returns-in_ok-push-2 c =
     let name = c.args.name.now in
     let open_quote = pushed (quote ∷ []) refl c.in_ok-push.was c.push.ensures.items in
     let text = pushed name open_quote c.in_ok-extend_from_slice.was c.extend_from_slice.ensures.items in
-    let all = pushed (quote ∷ []) text c.in_ok-push-2.was c.push-then-contains_byte.ensures.items in
+    let all = pushed (quote ∷ []) text c.in_ok-push-2.was c.push-then-contains.ensures.items in
     all ∙ append_assoc (old ++ (quote ∷ [])) name (quote ∷ []) ∙ append_assoc old (quote ∷ []) (name ++ (quote ∷ []))
-    ∙ ap (λ t. old ++ t) (sym (cond-true _ _ _ (sym c.if-contains_byte.ensures)))
+    ∙ ap (λ t. old ++ t) (sym (cond-true _ _ _ (sym c.if-contains.ensures.value)))

@@ -6,6 +6,7 @@ use Rattle.records.specs.Cursor.{Cursor, field_at, field_here, moved, moved_past
 use Rattle.records.specs.Told.{cursor}
 use Rattle.records.specs.declared.cut.Cut.{Cut}
 use Rattle.records.proofs.Exactness.{exact}
+use Rattle.records.proofs.Follows.{is_end_by}
 use Rattle.records.proofs.fields.Fields.next_field.Goals as goal
 
 -- before the end of the file, what the cut gives is all that counts
@@ -44,7 +45,7 @@ returns c =
     let told = c.in-Some.ensures.value in
     record {
       answer = rw (c.text_of-text.ensures, take_rest) (sym (answer_by_lem bs (cursor c.args.self.now) _ c.if-self.false told));
-      after = rw (c.next_place-self.ensures.place, c.is_end-self.ensures) (sym (moved_by bs (cursor c.args.self.now) _ c.if-self.false told));
+      after = rw (c.next_place-self.ensures.place, c.eq-self.ensures ∙ sym (is_end_by _)) (sym (moved_by bs (cursor c.args.self.now) _ c.if-self.false told));
       bytes = refl;
       law = exact _;
     }

@@ -1,18 +1,11 @@
-use Rattle.std.proofs.Common.{sym, ◌∙◌, arith}
-use Rattle.records.specs.Told.{names}
-use Rattle.records.proofs.NameSearch.{column_next, column_past, column_end}
+use Rattle.std.proofs.Common.{ap, ◌∙◌, rules, tests, bytes_eq}
+use Rattle.std.proofs.lemmas.Iterator.{YieldsList-from_slice}
+use Rattle.std.proofs.lemmas.Iterator.Search.{position_from_yields_List}
+use Rattle.records.specs.Headers.{column_from}
+use Rattle.records.proofs.NameSearch.{column_at_position}
 use Rattle.records.proofs.heading.Header.column.Goals as goal
 
-pub returns-in_default : goal.returns-in_default
-returns-in_default c = sym (c.loop-column.invariant ∙ column_past (names c.args.self.now) c.loop-column.column _ c.in_default.ensures)
-
-pub returns-then-same : goal.returns-then-same
-returns-then-same c =
-    sym (c.loop-column.invariant ∙ column_next (names c.args.self.now) c.loop-column.column _ _ _ c.in-Some.ensures c.if-same.ensures)
-
-pub loop-column-preserved : goal.loop-column-preserved
-loop-column-preserved c =
-    c.loop-column.invariant ∙ column_next (names c.args.self.now) c.loop-column.column _ _ _ c.in-Some.ensures c.if-same.ensures
-
 pub returns : goal.returns
-returns c = sym (c.loop-column.invariant ∙ column_end (names c.args.self.now) c.loop-column.column _ (omega (arith, c.width-column-end.ensures, c.loop-column-test.false)))
+returns c =
+    position_from_yields_List (λ own. bytes_eq own.now c.args.name.now) _ _ c.position.result c.position.ensures.ran (YieldsList-from_slice _ c.iter.ensures.rest) (λ x b q k. search (rules, tests))
+    ∙ column_at_position c.names.result.now c.args.name.now ∙ ap (λ ns. column_from ns c.args.name.now 0) c.names.ensures
