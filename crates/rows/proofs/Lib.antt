@@ -1,3 +1,2 @@
-pub mod RecordedRows
 pub mod RowStates
-pub mod WrittenRows
+pub mod RecordedRows
