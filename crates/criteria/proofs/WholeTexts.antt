@@ -29,20 +29,6 @@ behind rules t e = ap (λ (o : Outcome PropertyTree). and_then o (λ p n s. cond
 pub text_read : (rules : Rules) {p : PropertyTree} {n : ℕ} {s : List Spot} (t : List Spot) → formula rules rules.nesting 0 t ≡ got p n s → is_stop (first s).tok ≡ true → reading rules t ≡ got p n s
 text_read rules {p} {n} {s} t e stops = behind rules t e ∙ ap (ended p n s) stops
 
-pub text_goes_on : (rules : Rules) {p : PropertyTree} {n : ℕ} {s : List Spot} (t : List Spot) → formula rules rules.nesting 0 t ≡ got p n s → is_stop (first s).tok ≡ false → reading rules t ≡ refuse 2 s
-text_goes_on rules {p} {n} {s} t e goes = behind rules t e ∙ ap (ended p n s) goes
-
-pub text_refused : (rules : Rules) {number place : ℕ} {s : List Spot} (t : List Spot) → formula rules rules.nesting 0 t ≡ fault number place s → reading rules t ≡ fault number place s
-text_refused rules t e = ap (λ (o : Outcome PropertyTree). and_then o (λ p n s. cond (is_stop (first s).tok) (got p n s) (refuse 2 s))) e
-
-pub rule_of_its_number : (r : Rule) → rule_with (rule_number r) ≡ r
-rule_of_its_number Grammar = refl
-rule_of_its_number Limit = refl
-rule_of_its_number Order = refl
-rule_of_its_number Column = refl
-rule_of_its_number Size = refl
-rule_of_its_number Bound = refl
-
 -- the places behind the parts stay as they were
 pub drop_replicate : {A : Type 0} (k n : ℕ) (x : A) → drop k (replicate n x) ≡ replicate (n - k) x
 drop_replicate zero n x = ap (λ (m : ℕ). replicate m x) (sym (sub-zero n))

@@ -20,14 +20,6 @@ arguments-returns-in-Statistic t c = record {
   balance = c.window_argument.ensures.balance;
 }
 
-pub call-returns-in_err-call : goal.call-returns-in_err-call
-call-returns-in_err-call t c =
-    let exit = err_from_is_err_and c.from_residual-in_err-call.result c.from_residual-in_err-call.ensures.1 in
-    let start = view c.args.self.now in
-    let inner = view c.opening.new.self in
-    let begun = opened c.args.function c.args.left (is_inside c.args.context) start (view c.bring.new.self) (view c.advance.new.self) inner c.in_ok-bring.ensures.answer c.advance.ensures.after c.in_ok-opening.ensures.answer in
-    rw (exit.1, exit.2) (record { answer = call_broken c.args.function c.args.left (is_inside c.args.context) start inner (view c.arguments.new.self) (view c.arguments.new.self) _ begun c.in_err-call.ensures.answer; balance = tt })
-
 pub call-returns-in_err-bound : goal.call-returns-in_err-bound
 call-returns-in_err-bound t c =
     let exit = err_from_is_err_and c.from_residual-in_err-bound.result c.from_residual-in_err-bound.ensures.1 in
@@ -158,20 +150,13 @@ two_arguments-returns t c =
       balance = balanced_on c.args.self.now c.punctuation.new.self c.measure-2.new.self (balanced_on c.args.self.now c.measure.new.self c.punctuation.new.self c.in_ok-first.ensures.balance c.in_ok-punctuation.ensures.balance) c.in_ok-second.ensures.balance;
     }
 
-pub window_argument-returns-in_err-argument : goal.window_argument-returns-in_err-argument
-window_argument-returns-in_err-argument t c =
+pub window_argument-returns-in_err-argument-clause-answer : goal.window_argument-returns-in_err-argument-clause-answer
+window_argument-returns-in_err-argument-clause-answer t c =
     let exit = err_from_is_err_and c.from_residual-in_err-argument.result c.from_residual-in_err-argument.ensures.1 in
     let after = view c.measure.new.self in
-    rw (exit.1, exit.2) (record {
-      answer = λ inside. over_broken (view c.args.self.now) c.args.s c.args.left inside c.requires (view c.window.new.self) after after c.in_ok-window.window c.in_err-argument.field-0.0 c.in_ok-window.ensures.answer c.in_err-argument.ensures.answer;
-      balance = tt;
-    })
+    rw (exit.1, exit.2) (λ inside. over_broken (view c.args.self.now) c.args.s c.args.left inside c.requires (view c.window.new.self) after after c.in_ok-window.window c.in_err-argument.field-0.0 c.in_ok-window.ensures.answer c.in_err-argument.ensures.answer)
 
-pub window_argument-returns : goal.window_argument-returns
-window_argument-returns t c =
-    record {
-      answer = λ inside.
-          subst (λ (k : Option ℕ). Follows (arguments_way c.args.self.now.scope.now (function.Statistic c.args.s) c.args.left inside) (view c.args.self.now) (Ok (record { part = part.Over c.args.s c.in_ok-window.window; bound = k })) (view c.measure.new.self)) (sym c.bound.ensures)
-          (over_read (view c.args.self.now) c.args.s c.args.left inside c.requires (view c.window.new.self) (view c.measure.new.self) c.in_ok-window.window c.in_ok-argument.argument c.in_ok-window.ensures.answer c.in_ok-argument.ensures.answer);
-      balance = balanced_on c.args.self.now c.window.new.self c.measure.new.self c.in_ok-window.ensures.balance c.in_ok-argument.ensures.balance;
-    }
+pub window_argument-returns-clause-answer : goal.window_argument-returns-clause-answer
+window_argument-returns-clause-answer t c = λ inside.
+    subst (λ (k : Option ℕ). Follows (arguments_way c.args.self.now.scope.now (function.Statistic c.args.s) c.args.left inside) (view c.args.self.now) (Ok (record { part = part.Over c.args.s c.in_ok-window.window; bound = k })) (view c.measure.new.self)) (sym c.bound.ensures)
+    (over_read (view c.args.self.now) c.args.s c.args.left inside c.requires (view c.window.new.self) (view c.measure.new.self) c.in_ok-window.window c.in_ok-argument.argument c.in_ok-window.ensures.answer c.in_ok-argument.ensures.answer)

@@ -40,32 +40,21 @@ bracketed-returns t c =
       balance = balanced_on start inner after (balanced_on start opens inner c.in_ok-opening.ensures.balance c.in_ok-at.ensures.balance) c.in_ok-punctuation.ensures.balance;
     }
 
-pub linked-returns-in_err-tier : goal.linked-returns-in_err-tier
-linked-returns-in_err-tier t c =
+pub linked-returns-in_err-tier-clause-answer : goal.linked-returns-in_err-tier-clause-answer
+linked-returns-in_err-tier-clause-answer t c =
     let exit = err_from_is_err_and c.from_residual-in_err-tier.result c.from_residual-in_err-tier.ensures.1 in
     let after = view c.tier.new.self in
     let linking = view c.link.new.self in
     let begun = joins c.args.left c.args.level c.args.sign (view c.args.self.now) (view c.bring.new.self) (view c.advance.new.self) linking c.in_ok-connective.connective c.in_ok-bring.ensures.answer c.advance.ensures.after c.in_ok-connective.ensures.answer in
-    rw (exit.1, exit.2) (record { answer = λ p. linked_broken c.args.left c.args.level c.args.sign (view c.args.self.now) linking after after c.in_ok-connective.connective c.in_err-tier.field-0.0 c.args.left_at p begun c.in_err-tier.ensures.answer; balance = tt })
+    rw (exit.1, exit.2) (λ p. linked_broken c.args.left c.args.level c.args.sign (view c.args.self.now) linking after after c.in_ok-connective.connective c.in_err-tier.field-0.0 c.args.left_at p begun c.in_err-tier.ensures.answer)
 
-pub linked-returns : goal.linked-returns
-linked-returns t c =
-    let start = c.args.self.now in
-    let brings = c.bring.new.self in
-    let moves = c.advance.new.self in
-    let links = c.link.new.self in
+pub linked-returns-clause-answer : goal.linked-returns-clause-answer
+linked-returns-clause-answer t c = λ p.
+    let start = view c.args.self.now in
+    let links = view c.link.new.self in
     let before = c.tier.new.self in
-    let begun = joins c.args.left c.args.level c.args.sign (view start) (view brings) (view moves) (view links) c.in_ok-connective.connective c.in_ok-bring.ensures.answer c.advance.ensures.after c.in_ok-connective.ensures.answer in
-    record {
-      answer = λ p. linked_read c.args.left c.args.level c.args.sign (view start) (view links) (view before) (view c.write.new.self) c.in_ok-connective.connective c.in_ok-tier.field-0 c.write.result c.args.left_at p begun c.in_ok-tier.ensures.answer c.write.ensures.after (c.write.ensures.answer ∙ sym (counted before));
-      balance =
-          balanced_again start brings before c.write.new.self _ _ c.in_ok-bring.ensures.answer c.in_ok-bring.ensures.count
-          (balanced_on brings links before (balanced_on brings moves links c.advance.ensures.balance c.in_ok-connective.ensures.balance) c.in_ok-tier.ensures.balance)
-          c.write.ensures.count c.write.ensures.after;
-    }
-
-pub links-loop-sign-init : goal.links-loop-sign-init
-links-loop-sign-init t c = (balanced_first c.args.self.now, λ p v e. reached_first c.args.left c.args.level p v c.args.first_at (view c.args.self.now) e)
+    let begun = joins c.args.left c.args.level c.args.sign start (view c.bring.new.self) (view c.advance.new.self) links c.in_ok-connective.connective c.in_ok-bring.ensures.answer c.advance.ensures.after c.in_ok-connective.ensures.answer in
+    linked_read c.args.left c.args.level c.args.sign start links (view before) (view c.write.new.self) c.in_ok-connective.connective c.in_ok-tier.field-0 c.write.result c.args.left_at p begun c.in_ok-tier.ensures.answer c.write.ensures.after (c.write.ensures.answer ∙ sym (counted before))
 
 pub links-loop-sign-preserved : goal.links-loop-sign-preserved
 links-loop-sign-preserved t c = (
@@ -75,26 +64,20 @@ links-loop-sign-preserved t c = (
       reached_more c.args.left c.args.level p v c.loop-sign.at (view c.loop-sign.self) r c.in-Some.sign c.in_ok-at.at (view c.linked.new.self) c.in-Some.ensures (c.in_ok-at.ensures.answer r.found),
 )
 
-pub links-returns-in_err-at : goal.links-returns-in_err-at
-links-returns-in_err-at t c =
+pub links-returns-in_err-at-clause-answer : goal.links-returns-in_err-at-clause-answer
+links-returns-in_err-at-clause-answer t c =
     let exit = err_from_is_err_and c.from_residual.result c.from_residual.ensures.1 in
     let after = view c.linked.new.self in
-    rw (exit.1, exit.2) (record {
-      answer = λ p v e.
-          let r = c.loop-sign.invariant.1 p v e in
-          reached_broken c.args.left c.args.level p v c.loop-sign.at (view c.loop-sign.self) r c.in-Some.sign c.in_err-at.field-0.0 after after c.in-Some.ensures (c.in_err-at.ensures.answer r.found);
-      balance = tt;
-    })
+    rw (exit.1, exit.2) (λ p v e.
+    let r = c.loop-sign.invariant.1 p v e in
+    reached_broken c.args.left c.args.level p v c.loop-sign.at (view c.loop-sign.self) r c.in-Some.sign c.in_err-at.field-0.0 after after c.in-Some.ensures (c.in_err-at.ensures.answer r.found))
 
 pub links-loop-sign-smaller : goal.links-loop-sign-smaller
 links-loop-sign-smaller t c =
     link_forward c.loop-sign.self.scope.now c.args.left c.args.level c.in-Some.sign c.loop-sign.at c.in_ok-at.at (view c.loop-sign.self) (view c.linked.new.self) c.in-Some.ensures c.in_ok-at.ensures.answer (tree.compare Value Equal (tree.numeral Unsigned 0) (tree.numeral Unsigned 0))
 
-pub links-returns : goal.links-returns
-links-returns t c = record {
-  answer = λ p v e. reached_all c.args.left c.args.level p v c.loop-sign.at (view c.loop-sign.self) (c.loop-sign.invariant.1 p v e) c.in_default.ensures;
-  balance = c.loop-sign.invariant.0;
-}
+pub links-returns-clause-answer : goal.links-returns-clause-answer
+links-returns-clause-answer t c = λ p v e. reached_all c.args.left c.args.level p v c.loop-sign.at (view c.loop-sign.self) (c.loop-sign.invariant.1 p v e) c.in_default.ensures
 
 pub operand-returns-in-Punctuation : goal.operand-returns-in-Punctuation
 operand-returns-in-Punctuation t c = record {
