@@ -1,5 +1,5 @@
 -- A whole text, told from the formula that its reading begins with: it is read if the text ends behind the formula, and else refused there.
-use Rattle.std.proofs.Common.{◌≡◌, ℕ, zero, suc, ◌-◌, Bool, true, false, cond, List, length, drop, replicate, Ok, sym, refl, ap, ◌∙◌}
+use Rattle.std.proofs.Common.{◌≡◌, ℕ, zero, suc, ◌-◌, Bool, true, cond, List, length, drop, replicate, Ok, sym, ap, ◌∙◌}
 use native.Mathlib.Nat.{sub-zero, suc-sub-suc, zero-sub}
 use Rattle.records.specs.Told.{names}
 use Rattle.parts.specs.Order.{parts_of}
@@ -7,15 +7,12 @@ use Rattle.parts.specs.declared.kinds.Part.{Part}
 use Rattle.tokens.specs.Lexing.{spots}
 use Rattle.tokens.specs.Tokens.{Spot, is_stop}
 use Rattle.grammar.specs.Meanings.{property_of}
-use Rattle.grammar.specs.Reading.{Outcome, got, fault, and_then, first, formula, reading, refuse}
+use Rattle.grammar.specs.Reading.{Outcome, got, and_then, first, formula, reading, refuse}
 use Rattle.grammar.specs.Steps.{Rules}
 use Rattle.grammar.specs.Trees.{PropertyTree}
 use Rattle.criteria.specs.Formulas.{blank, is_formula}
-use Rattle.criteria.specs.Refusals.{rule_number, rule_with}
 use Rattle.criteria.specs.States.{Follows, View, unread}
 use Rattle.criteria.specs.Ways.{columns_of, rules_of, tier_way}
-use Rattle.criteria.specs.declared.fault.Rule.{Rule}
-use Rattle.criteria.specs.declared.fault.Rule.TheVariants.{Grammar, Limit, Order, Column, Size, Bound}
 use Rattle.criteria.specs.declared.scope.Scope.{Scope}
 use Rattle.criteria.proofs.ExactTexts.{read_formula}
 use Rattle.criteria.proofs.Passing.{passed}

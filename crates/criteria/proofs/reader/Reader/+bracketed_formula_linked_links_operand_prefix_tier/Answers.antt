@@ -1,4 +1,4 @@
-use Rattle.std.proofs.Common.{sym, refl, ◌∙◌}
+use Rattle.std.proofs.Common.{sym, refl, ◌∙◌, rules}
 use Rattle.std.proofs.lemmas.Result.{err_from_is_err_and}
 use Rattle.parts.specs.declared.kinds.Comparator.TheVariants.{Equal}
 use Rattle.parts.specs.declared.kinds.Quantity.TheVariants.{Value}
@@ -8,10 +8,9 @@ use Rattle.tokens.specs.Tokens as tok
 use Rattle.grammar.specs.Trees as tree
 use Rattle.criteria.specs.States.{view}
 use Rattle.criteria.specs.Ways.{bracketed_way, change_comparison_way, comparison_way, prefixed_way}
-use Rattle.criteria.proofs.Formulas.{bracket_broken_close, bracket_broken_formula, bracket_read, joins, led, linked_broken, linked_read, operand_by, plain_operand, prefix_broken, prefix_read, sign_taken}
-use Rattle.criteria.proofs.Links.{link_forward, reached_all, reached_broken, reached_first, reached_more, tier_broken, tier_operand, tier_read}
-use Rattle.criteria.proofs.Passing.{balanced_first, balanced_on, balanced_through}
-use Rattle.criteria.proofs.Writing.{balanced_again, balanced_behind, counted}
+use Rattle.criteria.proofs.Formulas.{bracket_broken_close, bracket_broken_formula, bracket_read, joins, led, linked_broken, linked_read, operand_by, plain_operand, prefix_broken, prefix_read}
+use Rattle.criteria.proofs.Links.{link_forward, reached_all, reached_broken, reached_more, tier_broken, tier_operand, tier_read}
+use Rattle.criteria.proofs.Writing.{counted}
 use Rattle.criteria.proofs.reader.Reader.+bracketed_formula_linked_links_operand_prefix_tier.Goals as goal
 
 pub bracketed-returns-in_err-at : goal.bracketed-returns-in_err-at
@@ -37,7 +36,7 @@ bracketed-returns t c =
     let after = c.punctuation.new.self in
     record {
       answer = bracket_read c.args.left (view start) (view opens) (view inner) (view after) c.in_ok-at.at c.in_ok-opening.ensures.answer c.in_ok-at.ensures.answer c.in_ok-punctuation.ensures.answer;
-      balance = balanced_on start inner after (balanced_on start opens inner c.in_ok-opening.ensures.balance c.in_ok-at.ensures.balance) c.in_ok-punctuation.ensures.balance;
+      balance = search rules;
     }
 
 pub linked-returns-in_err-tier-clause-answer : goal.linked-returns-in_err-tier-clause-answer
@@ -58,7 +57,7 @@ linked-returns-clause-answer t c = λ p.
 
 pub links-loop-sign-preserved : goal.links-loop-sign-preserved
 links-loop-sign-preserved t c = (
-  balanced_on c.args.self.now c.loop-sign.self c.linked.new.self c.loop-sign.invariant.0 c.in_ok-at.ensures.balance,
+  search rules,
   λ p v e.
       let r = c.loop-sign.invariant.1 p v e in
       reached_more c.args.left c.args.level p v c.loop-sign.at (view c.loop-sign.self) r c.in-Some.sign c.in_ok-at.at (view c.linked.new.self) c.in-Some.ensures (c.in_ok-at.ensures.answer r.found),
@@ -122,9 +121,7 @@ prefix-returns t c =
     let begun = led c.args.left c.args.sign (view start) (view signs) (view leads) c.in_ok-prefix.prefix c.in_ok-prefix_sign.ensures.answer c.in_ok-prefix.ensures.answer in
     record {
       answer = prefix_read c.args.left c.args.sign (view start) (view leads) (view before) (view c.write.new.self) c.in_ok-prefix.prefix c.in_ok-operand.field-0 c.write.result begun c.in_ok-operand.ensures.answer c.write.ensures.after (c.write.ensures.answer ∙ sym (counted before));
-      balance =
-          balanced_behind start signs before c.write.new.self _ _ (sign_taken c.args.left (view start) (view signs) c.in_ok-prefix_sign.ensures.answer).1 c.in_ok-prefix_sign.ensures.count
-          (balanced_on signs leads before c.in_ok-prefix.ensures.balance c.in_ok-operand.ensures.balance) c.write.ensures.count c.write.ensures.after;
+      balance = search rules;
     }
 
 pub tier-returns-then-level-eq0 : goal.tier-returns-then-level-eq0
@@ -146,5 +143,5 @@ tier-returns t c =
     let after = c.links.new.self in
     record {
       answer = tier_read c.args.left c.args.level c.if-level-eq0.false (view start) (view inner) c.in_ok-at.at c.links.result (view after) c.in_ok-at.ensures.answer c.links.ensures.answer;
-      balance = balanced_through c.links.result start inner after c.in_ok-at.ensures.balance c.links.ensures.balance;
+      balance = search rules;
     }

@@ -1,4 +1,4 @@
-use Rattle.std.proofs.Common.{List, ap, rules}
+use Rattle.std.proofs.Common.{List, ap}
 use Rattle.tokens.specs.Tokens.{Spot}
 use Rattle.criteria.specs.States.{moved, view}
 use Rattle.criteria.proofs.Advancing.{advanced}

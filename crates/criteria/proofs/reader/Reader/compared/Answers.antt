@@ -2,8 +2,7 @@ use Rattle.std.proofs.Common.{sym, ◌∙◌}
 use Rattle.std.proofs.lemmas.Result.{err_from_is_err_and}
 use Rattle.criteria.specs.States.{view}
 use Rattle.criteria.proofs.Comparisons.{begun, compared_broken, compared_read}
-use Rattle.criteria.proofs.Passing.{balanced_on}
-use Rattle.criteria.proofs.Writing.{balanced_again, counted}
+use Rattle.criteria.proofs.Writing.{counted}
 use Rattle.criteria.proofs.reader.Reader.compared.Goals as goal
 
 pub returns-in_err-measure-clause-answer : goal.returns-in_err-measure-clause-answer
