@@ -1,14 +1,13 @@
 -- What a call's answer tells of the grammar's reading, and how calls one after the other make up a reading.
-use Rattle.std.proofs.Common.{◌≡◌, ℕ, ◌+◌, List, [], ◌++◌, length, drop, IfOk, Ok, Err, Result, sym, refl, ap, ◌∙◌, subst, arith}
+use Rattle.std.proofs.Common.{◌≡◌, ℕ, ◌+◌, List, [], ◌++◌, length, drop, Ok, Err, Result, sym, refl, ap, ◌∙◌, subst, arith}
 use Rattle.std.proofs.lemmas.List.{append-nil, append_assoc, length-append, drop-drop}
 use Rattle.parts.specs.declared.kinds.Part.{Part}
 use Rattle.tokens.specs.Tokens.{Spot}
 use Rattle.grammar.specs.Reading.{Outcome, Reader, got, fault, and_then}
 use Rattle.criteria.specs.Refusals.{rule_number}
-use Rattle.criteria.specs.States.{View, Way, image, Balanced, Follows, grown, moved}
+use Rattle.criteria.specs.States.{View, Way, image, Follows, grown, moved}
 use Rattle.criteria.specs.Ways.{silent}
 use Rattle.criteria.specs.declared.fault.Breach.{Breach}
-use Rattle.criteria.specs.declared.reader.Reader as held
 use Rattle.criteria.specs.declared.scope.Scope.{Scope}
 
 -- these parts are written behind those that were there
@@ -138,17 +137,6 @@ goes_on f g value u v r w h e k = k ∙ silent_image f g value u v (f u.brought 
 -- a call that goes on in the same scope
 pub scoped : {A B : Type 0} {s t : Scope} (way : Scope → Way A B) (u : View) (r : Result B Breach) (w : View) → t ≡ s → Follows (way t) u r w → Follows (way s) u r w
 scoped way u r w e h = subst (λ (s : Scope). Follows (way s) u r w) e h
-
--- what is balanced stays so through more calls
-pub balanced_first : (a : held.Reader) → Balanced a a
-balanced_first a = omega arith
-
-pub balanced_on : (a b d : held.Reader) → Balanced a b → Balanced b d → Balanced a d
-balanced_on a b d p q = omega arith
-
-pub balanced_through : {B : Type 0} (r : Result B Breach) (a b d : held.Reader) → Balanced a b → IfOk r (λ _. Balanced b d) → IfOk r (λ _. Balanced a d)
-balanced_through (Ok x) a b d p q = balanced_on a b d p q
-balanced_through (Err e) a b d p q = tt
 
 -- where a reading of two got something, so did the second
 pub then_got : {A C : Type 0} (o : Outcome A) (f : A → Reader C) (c : C) (k : ℕ) (u : List Spot) → and_then o f ≡ got c k u → (a : A) × (n : ℕ) × (t : List Spot) × (f a n t ≡ got c k u)

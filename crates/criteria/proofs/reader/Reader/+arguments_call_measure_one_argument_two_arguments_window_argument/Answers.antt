@@ -1,4 +1,4 @@
-use Rattle.std.proofs.Common.{ℕ, Ok, Option, sym, refl, ◌∙◌, subst}
+use Rattle.std.proofs.Common.{ℕ, Ok, Option, sym, refl, ◌∙◌, subst, rules}
 use Rattle.std.proofs.lemmas.Result.{err_from_is_err_and}
 use Rattle.parts.specs.declared.kinds.Part.TheVariants as part
 use Rattle.tokens.specs.Tokens as tok
@@ -7,9 +7,8 @@ use Rattle.criteria.specs.States.{Follows, view}
 use Rattle.criteria.specs.Ways.{arguments_way, call_way, is_inside, numeral_way, variable_way}
 use Rattle.criteria.specs.declared.reader.operands.Function.{Function}
 use Rattle.criteria.specs.declared.reader.operands.Function.TheVariants as function
-use Rattle.criteria.proofs.Measures.{call_broken, call_read, ending_broken, no_measure, one_broken, one_read, opened, over_broken, over_read, read_by, refused_by, two_broken_comma, two_broken_first, two_broken_second, two_read}
-use Rattle.criteria.proofs.Passing.{balanced_on}
-use Rattle.criteria.proofs.Writing.{balanced_again, counted}
+use Rattle.criteria.proofs.Measures.{call_read, ending_broken, no_measure, one_broken, one_read, opened, over_broken, over_read, read_by, refused_by, two_broken_comma, two_broken_first, two_broken_second, two_read}
+use Rattle.criteria.proofs.Writing.{counted}
 use Rattle.criteria.proofs.reader.Reader.+arguments_call_measure_one_argument_two_arguments_window_argument.Goals as goal
 
 pub arguments-returns-in-Statistic : goal.arguments-returns-in-Statistic
@@ -19,14 +18,6 @@ arguments-returns-in-Statistic t c = record {
       (sym c.in-Statistic.is) (c.window_argument.ensures.answer (is_inside c.args.context));
   balance = c.window_argument.ensures.balance;
 }
-
-pub call-returns-in_err-call : goal.call-returns-in_err-call
-call-returns-in_err-call t c =
-    let exit = err_from_is_err_and c.from_residual-in_err-call.result c.from_residual-in_err-call.ensures.1 in
-    let start = view c.args.self.now in
-    let inner = view c.opening.new.self in
-    let begun = opened c.args.function c.args.left (is_inside c.args.context) start (view c.bring.new.self) (view c.advance.new.self) inner c.in_ok-bring.ensures.answer c.advance.ensures.after c.in_ok-opening.ensures.answer in
-    rw (exit.1, exit.2) (record { answer = call_broken c.args.function c.args.left (is_inside c.args.context) start inner (view c.arguments.new.self) (view c.arguments.new.self) _ begun c.in_err-call.ensures.answer; balance = tt })
 
 pub call-returns-in_err-bound : goal.call-returns-in_err-bound
 call-returns-in_err-bound t c =
@@ -51,10 +42,7 @@ call-returns t c =
       answer =
           call_read f left inside start inner (view c.arguments.new.self) (view c.ending.new.self) (view c.write-at.new.self) c.in_ok-call.call c.at-name.result c.in_ok-bound.bound c.write-at.result
           begun c.at-name.ensures c.in_ok-call.ensures.answer c.in_ok-bound.ensures.answer c.write-at.ensures.after (c.write-at.ensures.answer ∙ sym (counted c.ending.new.self));
-      balance =
-          balanced_again c.args.self.now c.bring.new.self c.ending.new.self c.write-at.new.self _ _ c.in_ok-bring.ensures.answer c.in_ok-bring.ensures.count
-          (balanced_on c.bring.new.self c.arguments.new.self c.ending.new.self (balanced_on c.bring.new.self c.opening.new.self c.arguments.new.self (balanced_on c.bring.new.self c.advance.new.self c.opening.new.self c.advance.ensures.balance c.in_ok-opening.ensures.balance) c.in_ok-call.ensures.balance) c.in_ok-bound.ensures.balance)
-          c.write-at.ensures.count c.write-at.ensures.after;
+      balance = search rules;
     }
 
 pub measure-returns-in-Numeral : goal.measure-returns-in-Numeral
@@ -155,23 +143,16 @@ two_arguments-returns t c =
       answer =
           subst (λ (k : Option ℕ). Follows (arguments_way c.args.self.now.scope.now (function.Binary c.args.b) c.args.left (is_inside c.args.context)) (view c.args.self.now) (Ok (record { part = part.Binary c.args.b first.at; bound = k })) (view c.measure-2.new.self)) (sym c.bound.ensures)
           (two_read (view c.args.self.now) c.args.b c.args.left (is_inside c.args.context) c.requires (view c.measure.new.self) (view c.punctuation.new.self) (view c.measure-2.new.self) first c.in_ok-second.second c.in_ok-first.ensures.answer c.in_ok-punctuation.ensures.answer c.in_ok-second.ensures.answer);
-      balance = balanced_on c.args.self.now c.punctuation.new.self c.measure-2.new.self (balanced_on c.args.self.now c.measure.new.self c.punctuation.new.self c.in_ok-first.ensures.balance c.in_ok-punctuation.ensures.balance) c.in_ok-second.ensures.balance;
+      balance = search rules;
     }
 
-pub window_argument-returns-in_err-argument : goal.window_argument-returns-in_err-argument
-window_argument-returns-in_err-argument t c =
+pub window_argument-returns-in_err-argument-clause-answer : goal.window_argument-returns-in_err-argument-clause-answer
+window_argument-returns-in_err-argument-clause-answer t c =
     let exit = err_from_is_err_and c.from_residual-in_err-argument.result c.from_residual-in_err-argument.ensures.1 in
     let after = view c.measure.new.self in
-    rw (exit.1, exit.2) (record {
-      answer = λ inside. over_broken (view c.args.self.now) c.args.s c.args.left inside c.requires (view c.window.new.self) after after c.in_ok-window.window c.in_err-argument.field-0.0 c.in_ok-window.ensures.answer c.in_err-argument.ensures.answer;
-      balance = tt;
-    })
+    rw (exit.1, exit.2) (λ inside. over_broken (view c.args.self.now) c.args.s c.args.left inside c.requires (view c.window.new.self) after after c.in_ok-window.window c.in_err-argument.field-0.0 c.in_ok-window.ensures.answer c.in_err-argument.ensures.answer)
 
-pub window_argument-returns : goal.window_argument-returns
-window_argument-returns t c =
-    record {
-      answer = λ inside.
-          subst (λ (k : Option ℕ). Follows (arguments_way c.args.self.now.scope.now (function.Statistic c.args.s) c.args.left inside) (view c.args.self.now) (Ok (record { part = part.Over c.args.s c.in_ok-window.window; bound = k })) (view c.measure.new.self)) (sym c.bound.ensures)
-          (over_read (view c.args.self.now) c.args.s c.args.left inside c.requires (view c.window.new.self) (view c.measure.new.self) c.in_ok-window.window c.in_ok-argument.argument c.in_ok-window.ensures.answer c.in_ok-argument.ensures.answer);
-      balance = balanced_on c.args.self.now c.window.new.self c.measure.new.self c.in_ok-window.ensures.balance c.in_ok-argument.ensures.balance;
-    }
+pub window_argument-returns-clause-answer : goal.window_argument-returns-clause-answer
+window_argument-returns-clause-answer t c = λ inside.
+    subst (λ (k : Option ℕ). Follows (arguments_way c.args.self.now.scope.now (function.Statistic c.args.s) c.args.left inside) (view c.args.self.now) (Ok (record { part = part.Over c.args.s c.in_ok-window.window; bound = k })) (view c.measure.new.self)) (sym c.bound.ensures)
+    (over_read (view c.args.self.now) c.args.s c.args.left inside c.requires (view c.window.new.self) (view c.measure.new.self) c.in_ok-window.window c.in_ok-argument.argument c.in_ok-window.ensures.answer c.in_ok-argument.ensures.answer)

@@ -1,7 +1,7 @@
+use Rattle.std.proofs.Common.{rules}
 use Rattle.std.proofs.lemmas.Result.{err_from_is_err_and}
 use Rattle.criteria.specs.States.{view}
 use Rattle.criteria.proofs.Comparisons.{change_broken, change_read, change_unmeasured, measured, opened}
-use Rattle.criteria.proofs.Passing.{balanced_on, balanced_through}
 use Rattle.criteria.proofs.reader.Reader.change_comparison.Goals as goal
 
 pub returns-in_err-first : goal.returns-in_err-first
@@ -31,8 +31,5 @@ returns c =
     let begun = measured c.args.left (view start) (view opens) (view inner) c.in_ok-first.first (opened c.args.left (view start) (view c.advance.new.self) (view opens) c.advance.ensures.after c.in_ok-opening.ensures.answer) c.in_ok-first.ensures.answer in
     record {
       answer = change_read c.args.left (view start) (view inner) (view closed) c.in_ok-first.first c.compared.result (view after) begun c.in_ok-punctuation.ensures.answer c.compared.ensures.answer;
-      balance =
-          balanced_through c.compared.result start closed after
-          (balanced_on start inner closed (balanced_on start opens inner (balanced_on start c.advance.new.self opens c.advance.ensures.balance c.in_ok-opening.ensures.balance) c.in_ok-first.ensures.balance) c.in_ok-punctuation.ensures.balance)
-          c.compared.ensures.balance;
+      balance = search rules;
     }
