@@ -43,11 +43,13 @@ impl Layout for RowLayout {
         }
     }
 
+    #[tactic(auto, using(crate::proofs::RowStates::row_stay))]
     fn stay(&self, filled: Filled<'_>, i: usize) -> u64 {
         let row = i * (filled.head.shape.width + 1);
         filled.cells[row].unsigned_abs() as u64
     }
 
+    #[tactic(auto, using(crate::proofs::RowStates::row_value))]
     fn value(&self, filled: Filled<'_>, i: usize, v: usize) -> i64 {
         let row = i * (filled.head.shape.width + 1);
         filled.cells[row + 1 + v] as i64
