@@ -22,6 +22,10 @@ place_rises cells n m h = let e : m ≡ (m - n) + n = omega arith in rw e (rises
 pub place_fits : (cells : List ℤ) (n m used : ℕ) → place_of cells m ≡ used → n < m → place_of cells n + 2 + changed_at cells (place_of cells n) ≤ used
 place_fits cells n m used whole there = omega (arith, place_rises cells (suc n) m there)
 
+-- the same where the walk stands, if no more states are told
+pub walk_fits : (cells : List ℤ) (n m at : ℕ) → place_of cells m ≡ length cells → at ≡ place_of cells n → n < m → at + 2 + changed_at cells at ≤ length cells
+walk_fits cells n m at whole here there = rw here (place_fits cells n m (length cells) whole there)
+
 -- one change of a state more
 pub change_next : (v : ℕ) (cells : List ℤ) (at k : ℕ) (value : ℤ) → k < changed_at cells at → at + 2 + changed_at cells at ≤ length cells → changed_to v (drop k (changes_at cells at)) value ≡ changed_to v (drop (k + 1) (changes_at cells at)) (changed_by v (get_or cells (at + 2 + k) (pos 0)) value)
 change_next v cells at k value more fits =
