@@ -19,7 +19,7 @@ pub type Changes<'a> = Store<'a, ChangeLayout>;
 
 #[derive(Drop)]
 pub struct ChangeLayout {
-    // The values of the last state, of which the first ones are the variables'.
+    // The values of the last state, of which the first ones are the variables'. There is no heap, so the array is as wide as a run can be.
     last: [i32; 16],
     waypoints: Waypoints,
 }
