@@ -19,7 +19,7 @@ pub type Changes<'a> = Store<'a, ChangeLayout>;
 
 #[derive(Drop)]
 pub struct ChangeLayout {
-    // The values of the last state, of which the first ones are the variables'.
+    // The values of the last state, of which the first ones are the variables'. There is no heap, so the array is as wide as a run can be.
     last: [i32; 16],
     waypoints: Waypoints,
 }
@@ -39,6 +39,7 @@ impl Layout for ChangeLayout {
         Self::LARGEST
     }
 
+    #[tactic(auto, using(crate::proofs::Places::values_start))]
     fn start() -> Self {
         ChangeLayout {
             last: [0; 16],
@@ -60,11 +61,13 @@ impl Layout for ChangeLayout {
         self.update(offer.values);
     }
 
+    #[tactic(auto, using(crate::proofs::ToldStates::told_stay))]
     fn stay(&self, filled: Filled<'_>, i: usize) -> u64 {
         let at = self.place(filled, i);
         filled.cells[at].unsigned_abs() as u64
     }
 
+    #[tactic(auto, using(crate::proofs::ToldStates::told_value))]
     fn value(&self, filled: Filled<'_>, i: usize, v: usize) -> i64 {
         self.value_in(filled, i, v) as i64
     }

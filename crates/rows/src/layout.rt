@@ -38,16 +38,19 @@ impl Layout for RowLayout {
 
     fn keep(&mut self, _filled: Filled<'_>, free: &mut [i32], offer: Offer<'_>) {
         free[0] = offer.stay as i32;
+        // By index: of what a loop over `iter_mut` wrote, a proof knows no element.
         for (v, value) in offer.values.iter().enumerate() {
             free[1 + v] = *value as i32;
         }
     }
 
+    #[tactic(auto, using(crate::proofs::RowStates::row_stay))]
     fn stay(&self, filled: Filled<'_>, i: usize) -> u64 {
         let row = i * (filled.head.shape.width + 1);
         filled.cells[row].unsigned_abs() as u64
     }
 
+    #[tactic(auto, using(crate::proofs::RowStates::row_value))]
     fn value(&self, filled: Filled<'_>, i: usize, v: usize) -> i64 {
         let row = i * (filled.head.shape.width + 1);
         filled.cells[row + 1 + v] as i64

@@ -38,7 +38,12 @@ module _ (largest free : ℕ) (need : Offered → ℕ) (m : Meaning) where
   meaning_after (Ok None) = m
   meaning_after (Ok (Some f)) = fed (refusal_of f) (offer_of f) m
 
--- the same at a recorder, with its cells
+  abbrev pub cells_after : List ℤ → (Offered → List ℤ) → Result (Option (Firsts ℤ)) RecordFault → List ℤ
+  cells_after cells written (Err e) = cells
+  cells_after cells written (Ok None) = cells
+  cells_after cells written (Ok (Some f)) = after (refusal_of f) cells (written (offer_of f))
+
+-- the same at a recorder
 module _ {X : Type 0} (R : Ghosts X) (x : X) where
   abbrev pub record_refusal : Firsts ℤ → Option Refusal
   record_refusal f = refusal_by R x (offer_of f)
@@ -50,6 +55,4 @@ module _ {X : Type 0} (R : Ghosts X) (x : X) where
   record_meaning row = meaning_after R.largest (R.room x) (R.price x) (R.meaning x) row
 
   abbrev pub record_cells : Result (Option (Firsts ℤ)) RecordFault → List ℤ
-  record_cells (Err e) = R.cells x
-  record_cells (Ok None) = R.cells x
-  record_cells (Ok (Some f)) = after (record_refusal f) (R.cells x) (R.written x (offer_of f))
+  record_cells row = cells_after R.largest (R.room x) (R.price x) (R.meaning x) (R.cells x) (R.written x) row

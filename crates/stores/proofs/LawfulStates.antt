@@ -4,6 +4,7 @@ use Rattle.std.specs.Int.{is_in_range}
 use Rattle.std.proofs.ByRecursion.{All-get_or}
 use Rattle.std.proofs.lemmas.Bool.{and_from, and_parts, cases_Bool, eq-eqb, eqb-true, leb-true}
 use Rattle.std.proofs.lemmas.Bool.Decides.{nat_tests}
+use Rattle.std.proofs.lemmas.List.Folds.{list_all-append}
 use Rattle.std.proofs.lemmas.Option.{slice_get_past}
 use Rattle.runs.specs.Feeding.{all_within, state_of, stay_within, unlawful}
 use Rattle.runs.specs.Offers.{Offered}
@@ -44,10 +45,7 @@ module _ (shape : Shape) (largest : ℕ) (o : Offered) (lawful : unlawful shape 
       (and_from (eqb (length o.values) shape.width) (all_within largest o.values) (eq-eqb (length o.values) shape.width lawful_width) lawful_values)
 
 pub lawful_more : (shape : Shape) (largest : ℕ) (ss : List State) (s : State) → are_lawful shape largest ss ≡ true → is_lawful shape largest s ≡ true → are_lawful shape largest (ss ++ (s ∷ [])) ≡ true
-lawful_more shape largest [] s all one = and_from (is_lawful shape largest s) true one refl
-lawful_more shape largest (t ∷ ss) s all one =
-    let p = and_parts (is_lawful shape largest t) (are_lawful shape largest ss) all in
-    and_from (is_lawful shape largest t) _ p.0 (lawful_more shape largest ss s p.1 one)
+lawful_more shape largest ss s all one = rw (list_all-append (is_lawful shape largest) ss (s ∷ []), all, one) refl
 
 -- a lawful state has no value beyond the width
 pub no_value : (shape : Shape) (largest : ℕ) (ss : List State) (i v : ℕ) → are_lawful shape largest ss ≡ true → shape.width ≤ v → value_at ss i v ≡ None

@@ -1,7 +1,7 @@
 -- What the recorders with cells of their own share: which cells are free, what a state needs, and why their meaning is sound. Assumes nothing.
 use Rattle.std.specs.Prelude.{◌≡◌, ℕ, ◌+◌, ◌-◌, ◌≤◌, Bool, true, cond, ◌&&◌, List, [], ◌∷◌, length, ℤ, is_some, Some, None, Option, ◌==◌, nat_le, unsigned_abs, refl}
 use Rattle.std.specs.Int.{is_in_range}
-use Rattle.std.specs.List.{AllByRecursion}
+use Rattle.std.specs.List.{AllByRecursion, list_all}
 use Rattle.std.proofs.lemmas.Bool.{and_parts, leb-true, eqb-true}
 use Rattle.runs.specs.Feeding.{Priced, after, all_within, unlawful}
 use Rattle.runs.specs.Offers.{Offered}
@@ -31,8 +31,7 @@ abbrev pub is_lawful : Shape → ℕ → State → Bool
 is_lawful shape largest s = is_in_range 1 shape.longest s.stay && (length s.values == shape.width && all_within largest s.values)
 
 abbrev pub are_lawful : Shape → ℕ → List State → Bool
-are_lawful shape largest [] = true
-are_lawful shape largest (s ∷ ss) = is_lawful shape largest s && are_lawful shape largest ss
+are_lawful shape largest ss = list_all (is_lawful shape largest) ss
 
 priced_at : (o : Option Refusal) (n : ℕ) → is_some o ≡ true → after o 0 n ≡ 0
 priced_at (Some r) n e = refl

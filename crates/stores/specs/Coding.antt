@@ -1,4 +1,4 @@
--- How a kind of recorder lays states in cells. Assumes nothing.
+-- How a kind of recorder lays states in cells, and the laws of that. Assumes nothing.
 use Rattle.std.specs.Prelude.{◌≡◌, ℕ, ◌≤◌, List, [], ◌∷◌, ◌++◌, length, ℤ, None}
 use Rattle.runs.specs.Feeding.{state_of, unlawful}
 use Rattle.runs.specs.Offers.{Offered}
@@ -13,8 +13,9 @@ pub record Coding : Type 0 where
   -- the cells of one state more behind some states, and how many a lawful one needs
   pub added : Shape → List State → Offered → List ℤ
   pub needs : Shape → List State → Offered → ℕ
-  -- the first so many states that cells tell
+  -- the first so many states that cells tell, read back from them
   pub states : Shape → ℕ → List ℤ → List State
+  -- no state fills a cell; a lawful one more fills those added behind the others; these are as many as it needs, one at least; and as many states are told as are asked for
   pub none : (shape : Shape) → cells shape [] ≡ []
   pub more : (shape : Shape) (ss : List State) (o : Offered) → unlawful shape largest o ≡ None → cells shape (ss ++ (state_of o ∷ [])) ≡ cells shape ss ++ added shape ss o
   pub fits : (shape : Shape) (ss : List State) (o : Offered) → unlawful shape largest o ≡ None → length (added shape ss o) ≡ needs shape ss o

@@ -17,6 +17,8 @@ pub struct Filled<'a> {
     pub cells: &'a [i32],
 }
 
+// A layout holds no cells, so no field of it can say that what it keeps is true of them: each call requires it.
+// Nor does a type stand for a lawful offer: it would hold the shape and the magnitude too, and each call would require that they are these.
 pub trait Layout: Drop {
     // The largest magnitude of a value that a cell can hold.
     const LARGEST: i64;
@@ -29,7 +31,7 @@ pub trait Layout: Drop {
 
     ghost fact: { (x : Self) (shape : Shape) (n : ℕ) (cells : List ℤ) → IsProp (kept x shape n cells) };
 
-    // `LARGEST`, of which no contract can speak.
+    // `LARGEST`, which a contract can't name where the recorder's type has a lifetime.
     fn largest_magnitude() -> i64
         ensures { result ≡ pos coding.largest };
 

@@ -47,6 +47,7 @@ impl ChangeLayout {
     {
         free[0] = offer.stay as i32;
         free[1] = self.changed(offer.values) as i32;
+        // Counted by hand: a `filter_map` would need a contract on its closure, and be longer.
         let mut at = 2;
         for (v, value) in offer.values.iter().enumerate() {
             if let Some(cell) = self.change(v, *value) {
@@ -63,6 +64,7 @@ impl ChangeLayout {
         ensures last { take (length values.now) self.new.last ≡ values.now }
         ensures waypoints { self.new.waypoints ≡ self.old.waypoints }
     {
+        // By index: of what a loop over `iter_mut` wrote, a proof knows no element.
         for (v, value) in values.iter().enumerate() {
             self.last[v] = *value as i32;
         }

@@ -1,4 +1,5 @@
 // How a state is found again: by walking from the waypoint before it, over at most 64 states.
+// The walks are loops and no folds: a fold's closure would have to require that the state lies in the cells.
 ghost use Rattle.std.specs.Prelude.{◌≡◌, ◌+◌, ◌<◌, ◌≤◌, length};
 ghost use Rattle.changes.specs.Encoding.{changed_at, changed_to, changes_at, place_of, value_before};
 ghost use Rattle.changes.specs.Kept.{Kept};
@@ -29,10 +30,12 @@ fn value_past(changes: &[i32], v: usize, before: i32) -> i32
 
 impl ChangeLayout {
     // Where state i begins.
+    #[tactic(auto, using(crate::proofs::Places::walk_fits))]
     pub(super) fn place(&self, filled: Filled<'_>, i: usize) -> usize
         requires kept { Kept self.now.last self.now.waypoints.0 filled.head.shape filled.head.count filled.cells.now }
         requires state { i < filled.head.count }
-        ensures { result ≡ place_of filled.entry.cells.now i }
+        ensures place { result ≡ place_of filled.entry.cells.now i }
+        ensures there { result < length filled.entry.cells.now }
     {
         let mut at = self.waypoints.preceding(i).place;
         for _state in 64 * (i / 64)..i {
@@ -42,6 +45,7 @@ impl ChangeLayout {
     }
 
     // The value of variable v in state i.
+    #[tactic(auto, using(crate::proofs::Places::walk_fits))]
     pub(super) fn value_in(&self, filled: Filled<'_>, i: usize, v: usize) -> i32
         requires kept { Kept self.now.last self.now.waypoints.0 filled.head.shape filled.head.count filled.cells.now }
         requires state { i < filled.head.count }
