@@ -9,7 +9,7 @@ use super::Header;
 
 impl<'a> Header<'a> {
     // The names of the columns, from the left.
-    fn names(&self) -> &[&'a [u8]]
+    pub fn names(&self) -> &[&'a [u8]]
         ensures { map (λ x. x.now) result.now ≡ names self.now }
     {
         self.kept.rest()
