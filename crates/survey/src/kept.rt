@@ -19,8 +19,7 @@ pub(crate) fn feed_records(
     ensures long { length (cells_of rows.new) ≡ length (cells_of rows.old) }
 {
     for _ in 0..most {
-        let more = feed_record(fields, rows)?;
-        if !more {
+        if !feed_record(fields, rows)? {
             return Ok(());
         }
     }

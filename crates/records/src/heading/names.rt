@@ -16,7 +16,7 @@ impl<'a> Header<'a> {
     }
 
     // The names of the columns, from the left.
-    fn names(&self) -> &[&'a [u8]]
+    pub fn names(&self) -> &[&'a [u8]]
         ensures { map (λ x. x.now) result.now ≡ names self.now }
     {
         match self.titles() {
