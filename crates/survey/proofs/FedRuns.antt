@@ -1,5 +1,6 @@
 -- A file fed into rows, record by record. Assumes nothing.
 use Rattle.std.proofs.Common.{◌≡◌, ℕ, suc, ◌+◌, ◌-◌, ◌*◌, ◌<◌, ◌≤◌, Bool, true, false, cond, leb, List, length, ℤ, is_ok, Some, None, Ok, Err, Option, Result, sym, refl, ap, ◌∙◌, subst, arith, Bor}
+use Rattle.std.proofs.lemmas.List.{length-take-le}
 use Rattle.std.specs.Result.{result_map_both}
 use Rattle.records.specs.Cursor.{Cursor}
 use Rattle.records.specs.Firsts.{Firsts}
@@ -10,16 +11,18 @@ use Rattle.runs.specs.Runs.{Meaning}
 use Rattle.runs.specs.declared.refusal.Refusal.{Refusal}
 use Rattle.rows.specs.RowRuns.{RowStore, cells_of, free_in, meaning_of, need_in, written_in}
 use Rattle.rows.specs.Rows.{row_largest}
-use Rattle.rows.proofs.UsedRows.{used_rows}
 use Rattle.stores.proofs.RecordedCalls.{kept_count, written_long}
 use Rattle.runfiles.specs.Offers.{answer_to, cells_after, meaning_after, offer_answer, offer_of, refusal_of}
 use Rattle.runfiles.specs.declared.fault.RunFault.{RunFault}
 use Rattle.survey.specs.Fed.{rows_free, answer_at, meaning_at, fed_on, fed_from}
 
 module _ (r : RowStore) where
+  used_rows : r.head.used ≡ r.head.count * (r.head.shape.width + 1)
+  used_rows = sym (length-take-le r.head.used (cells_of r) r.within) ∙ r.kept
+
   pub free_is : free_in r ≡ rows_free (length (cells_of r)) (meaning_of r)
   free_is =
-      ap (λ n. cond (leb 4096 r.head.count) 0 (length (cells_of r) - n)) (used_rows r)
+      ap (λ n. cond (leb 4096 r.head.count) 0 (length (cells_of r) - n)) used_rows
       ∙ ap (λ k. cond (leb 4096 k) 0 (length (cells_of r) - k * (r.head.shape.width + 1))) (sym (kept_count r))
 
   taken_cells : (f : Firsts ℤ) (refused : Option Refusal) → refusal_of row_largest (free_in r) (need_in r) (meaning_of r) f ≡ refused → length (after refused (cells_of r) (written_in r (offer_of f))) ≡ length (cells_of r)
