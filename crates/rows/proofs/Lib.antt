@@ -1,2 +1,2 @@
 pub mod RowStates
-pub mod RecordedRows
+pub mod UsedRows

@@ -48,7 +48,7 @@ module _ {L : Type 0} {g : Ghosts L} (r : Store L g) where
     pub written_long : length (written_in r o) ≡ length (cells_of r)
     written_long =
         let lawful = taken_lawful g.coding.largest (free_in r) (need_in r o) (meaning_of r) o taken in
-        as_many g.coding r.head (cells_of r) (g.coding.needs r.head.shape (states_of r) o) o lawful refl r.within fits
+        as_many {k = g.coding} {h = r.head} {o = o} (record { lawful = lawful; needs = refl; within = r.within; room = fits })
 
     taken_held : (first : List ℤ) → Holds g.coding first (meaning_of r) (cells_of r) → Holds g.coding first (with_state (state_of o) 0 (meaning_of r).run) (written_in r o)
     taken_held first before =

@@ -1,7 +1,6 @@
 -- How many cells the rows of a recorder fill. Assumes nothing.
 use Rattle.std.proofs.Common.{◌≡◌, ◌+◌, ◌*◌, sym, ◌∙◌}
 use Rattle.std.proofs.lemmas.List.{length-take-le}
-pub use Rattle.stores.proofs.RecordedCalls.{kept_count, written_long}
 use Rattle.rows.specs.RowRuns.{RowStore, cells_of}
 
 pub used_rows : (r : RowStore) → r.head.used ≡ r.head.count * (r.head.shape.width + 1)
