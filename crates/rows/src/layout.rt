@@ -38,7 +38,7 @@ impl Layout for RowLayout {
 
     fn keep(&mut self, _filled: Filled<'_>, free: &mut [i32], offer: Offer<'_>) {
         free[0] = offer.stay as i32;
-        // By index: of what a loop over `iter_mut` wrote, a proof knows no element.
+        // By index: of what a loop over `iter_mut().zip(..)` wrote, a proof knows no element.
         for (v, value) in offer.values.iter().enumerate() {
             free[1 + v] = *value as i32;
         }

@@ -64,7 +64,7 @@ impl ChangeLayout {
         ensures last { take (length values.now) self.new.last ≡ values.now }
         ensures waypoints { self.new.waypoints ≡ self.old.waypoints }
     {
-        // By index: of what a loop over `iter_mut` wrote, a proof knows no element.
+        // By index: of what a loop over `iter_mut().zip(..)` wrote, a proof knows no element.
         for (v, value) in values.iter().enumerate() {
             self.last[v] = *value as i32;
         }
