@@ -81,11 +81,10 @@ fn offer<R: Recorder>(recorder: &mut R, row: &Record) -> Result<(), RunFault>
     ensures cells { R.cells recorder.new ≡ record_cells R.Recorder recorder.old (Ok (Some (numbers_of row.now))) }
     ensures place { R.place recorder.new ≡ R.place recorder.old }
 {
-    if let Err(refusal) = recorder.feed(offer_of(row)) {
-        let largest = R::largest_magnitude().unsigned_abs();
-        return Err(fault_of(refusal, largest, row));
-    }
-    Ok(())
+    let largest = R::largest_magnitude().unsigned_abs();
+    recorder
+        .feed(offer_of(row))
+        .map_err(|refusal| fault_of(refusal, largest, row))
 }
 
 // Feeds the next record of a file to a run: true once it is fed, false once the file has ended. A refusal changes neither the reader nor the run.
