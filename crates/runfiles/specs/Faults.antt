@@ -15,7 +15,7 @@ use Rattle.runfiles.specs.declared.fault.Cause.{Cause}
 use Rattle.runfiles.specs.declared.fault.Cause.TheVariants.{Record, Run}
 use Rattle.runfiles.specs.declared.fault.RunFault.{RunFault}
 
--- the number of the state, from 0, whose record begins here: the header is row 0 of the file
+-- the number of the state, from 0, of the record at this position: the header is row 0 of the file
 abbrev pub state_at : Position → ℕ
 state_at p = p.row - 1
 

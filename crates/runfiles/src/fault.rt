@@ -19,7 +19,7 @@ pub enum Cause {
     Run(runs::Refusal, usize),
 }
 
-// The number of the state whose record begins here: the header is row 0 of the file.
+// The number of the state, from 0, of the record at this position: the header is row 0 of the file.
 pub(crate) fn state_at(at: Position) -> usize
     ensures { result ≡ state_at at }
 {
