@@ -5,6 +5,7 @@ use Rattle.std.specs.List.{slice_get}
 use Rattle.records.specs.Firsts.{Firsts}
 use Rattle.records.specs.Records.{values_of}
 use Rattle.records.specs.Refusals.{position_of, refusal}
+use Rattle.records.specs.declared.fault.Position.{Position}
 use Rattle.records.specs.declared.fault.RecordFault.{RecordFault}
 use Rattle.records.specs.declared.fault.Refusal as told
 use Rattle.runs.specs.Feeding.{number}
@@ -14,9 +15,13 @@ use Rattle.runfiles.specs.declared.fault.Cause.{Cause}
 use Rattle.runfiles.specs.declared.fault.Cause.TheVariants.{Record, Run}
 use Rattle.runfiles.specs.declared.fault.RunFault.{RunFault}
 
--- a record's fault, whole, with the number of its state: the header is row 0 of the file
+-- the number of the state, from 0, of the record at this position: the header is row 0 of the file
+abbrev pub state_at : Position → ℕ
+state_at p = p.row - 1
+
+-- a record's fault, whole, with the number of its state
 abbrev pub from_record : RecordFault → RunFault
-from_record f = record { state = (position_of f).row - 1; cause = Record f }
+from_record f = record { state = state_at (position_of f); cause = Record f }
 
 abbrev pub refusal_of : Cause → told.Refusal
 refusal_of (Record f) = refusal f
@@ -44,4 +49,4 @@ place_of largest f refused.Full = f.at.byte
 place_of largest f refused.NoStates = 0
 
 abbrev pub from_run : ℕ → Firsts ℤ → Refusal → RunFault
-from_run largest f r = record { state = f.at.row - 1; cause = Run r (place_of largest f r) }
+from_run largest f r = record { state = state_at f.at; cause = Run r (place_of largest f r) }

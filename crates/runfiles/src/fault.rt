@@ -1,8 +1,8 @@
 // Why a record is not fed, through all layers.
 ghost use Rattle.std.specs.Prelude.{◌≡◌};
-ghost use Rattle.runfiles.specs.Faults.{from_record, refusal_of};
+ghost use Rattle.runfiles.specs.Faults.{from_record, refusal_of, state_at};
 
-use records::{RecordFault, Refusal};
+use records::{Position, RecordFault, Refusal};
 
 // The number of the state, from 0, that the record at fault would have been, and why it is none.
 #[derive(Clone, Copy, PartialEq, Eq, Debug)]
@@ -19,12 +19,19 @@ pub enum Cause {
     Run(runs::Refusal, usize),
 }
 
+// The number of the state, from 0, of the record at this position: the header is row 0 of the file.
+pub(crate) fn state_at(at: Position) -> usize
+    ensures { result ≡ state_at at }
+{
+    at.row.saturating_sub(1)
+}
+
 impl From<RecordFault> for RunFault {
     ghost from_gives = { λ f r. r ≡ from_record f };
 
     fn from(fault: RecordFault) -> RunFault {
         RunFault {
-            state: fault.at().row.saturating_sub(1),
+            state: state_at(fault.at()),
             cause: Cause::Record(fault),
         }
     }

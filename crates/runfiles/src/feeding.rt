@@ -6,7 +6,7 @@ ghost use Rattle.runs.specs.Offers.{told};
 ghost use Rattle.runfiles.specs.Faults.{byte_at, first_over, from_run, over_place, place_of};
 ghost use Rattle.runfiles.specs.Offers.{offer_answer, offer_of, record_answer, record_cells, record_meaning, record_refusal};
 
-use super::fault::{Cause, RunFault};
+use super::fault::{Cause, RunFault, state_at};
 use records::{Fields, Record};
 use runs::{Offer, Recorder, Refusal, Shape};
 
@@ -43,34 +43,35 @@ fn first_over(largest: u64, values: &[i64]) -> Option<usize>
     values.iter().position(|v| v.unsigned_abs() > largest)
 }
 
-// The first byte of the leftmost value beyond the largest magnitude.
-fn over_place(largest: u64, row: &Record) -> usize
-    ensures { result ≡ over_place (numbers_of row.now) (first_over largest (values_of (numbers_of row.now))) }
+// The first byte of the leftmost value beyond the recorder's largest magnitude.
+fn over_place<R: Recorder>(row: &Record) -> usize
+    ensures { result ≡ over_place (numbers_of row.now) (first_over R.largest (values_of (numbers_of row.now))) }
 {
-    match first_over(largest, row.values()) {
+    match first_over(R::largest_magnitude().unsigned_abs(), row.values()) {
         Some(v) => byte_at(row, v + 1),
         None => row.at().byte,
     }
 }
 
 // Where in the file a run's refusal of this record stands.
-fn place_of(refusal: Refusal, largest: u64, row: &Record) -> usize
-    ensures { result ≡ place_of largest (numbers_of row.now) refusal }
+fn place_of<R: Recorder>(refusal: Refusal, row: &Record) -> usize
+    ensures { result ≡ place_of R.largest (numbers_of row.now) refusal }
 {
     match refusal {
         Refusal::Width | Refusal::Stay | Refusal::Full => row.at().byte,
-        Refusal::Magnitude => over_place(largest, row),
+        Refusal::Magnitude => over_place::<R>(row),
+        // Place 0, as the format lays down: no byte of the file is at fault.
         Refusal::Ended | Refusal::NoStates => 0,
     }
 }
 
 // A run's refusal of this record, as a fault of the file.
-fn fault_of(refusal: Refusal, largest: u64, row: &Record) -> RunFault
-    ensures { result ≡ from_run largest (numbers_of row.now) refusal }
+fn fault_of<R: Recorder>(refusal: Refusal, row: &Record) -> RunFault
+    ensures { result ≡ from_run R.largest (numbers_of row.now) refusal }
 {
     RunFault {
-        state: row.at().row.saturating_sub(1),
-        cause: Cause::Run(refusal, place_of(refusal, largest, row)),
+        state: state_at(row.at()),
+        cause: Cause::Run(refusal, place_of::<R>(refusal, row)),
     }
 }
 
@@ -81,15 +82,12 @@ fn offer<R: Recorder>(recorder: &mut R, row: &Record) -> Result<(), RunFault>
     ensures cells { R.cells recorder.new ≡ record_cells R.Recorder recorder.old (Ok (Some (numbers_of row.now))) }
     ensures place { R.place recorder.new ≡ R.place recorder.old }
 {
-    if let Err(refusal) = recorder.feed(offer_of(row)) {
-        let largest = R::largest_magnitude().unsigned_abs();
-        return Err(fault_of(refusal, largest, row));
-    }
-    Ok(())
+    recorder
+        .feed(offer_of(row))
+        .map_err(|refusal| fault_of::<R>(refusal, row))
 }
 
 // Feeds the next record of a file to a run: true once it is fed, false once the file has ended. A refusal changes neither the reader nor the run.
-// A bool, as a reader of lines answers it: `while feed_record(..)? {}` feeds a whole file.
 pub fn feed_record<R: Recorder>(fields: &mut Fields<'_>, recorder: &mut R) -> Result<bool, RunFault>
     ensures answer { result ≡ record_answer R.Recorder recorder.old (record_at fields.old.bytes.now (cursor fields.old)) }
     ensures after { R.meaning recorder.new ≡ record_meaning R.Recorder recorder.old (record_at fields.old.bytes.now (cursor fields.old)) }

@@ -1,7 +1,6 @@
 -- A file fed into rows, record by record. Assumes nothing.
 use Rattle.std.proofs.Common.{◌≡◌, ℕ, suc, ◌+◌, ◌-◌, ◌*◌, ◌<◌, ◌≤◌, Bool, true, false, cond, leb, List, length, ℤ, is_ok, Some, None, Ok, Err, Option, Result, sym, refl, ap, ◌∙◌, subst, arith, Bor}
 use Rattle.std.proofs.lemmas.List.{length-take-le}
-use Rattle.std.specs.Result.{result_map_both}
 use Rattle.records.specs.Cursor.{Cursor}
 use Rattle.records.specs.Firsts.{Firsts}
 use Rattle.records.specs.Records.{record_at, behind_record}
@@ -12,7 +11,7 @@ use Rattle.runs.specs.declared.refusal.Refusal.{Refusal}
 use Rattle.rows.specs.RowRuns.{RowStore, cells_of, free_in, meaning_of, need_in, written_in}
 use Rattle.rows.specs.Rows.{row_largest}
 use Rattle.stores.proofs.RecordedCalls.{kept_count, written_long}
-use Rattle.runfiles.specs.Offers.{answer_to, cells_after, meaning_after, offer_answer, offer_of, refusal_of}
+use Rattle.runfiles.specs.Offers.{answer_to, cells_after, meaning_after, offer_answer, offer_of, offered_answer, refusal_for}
 use Rattle.runfiles.specs.declared.fault.RunFault.{RunFault}
 use Rattle.survey.specs.Fed.{rows_free, answer_at, meaning_at, fed_on, fed_from}
 
@@ -25,7 +24,7 @@ module _ (r : RowStore) where
       ap (λ n. cond (leb 4096 r.head.count) 0 (length (cells_of r) - n)) used_rows
       ∙ ap (λ k. cond (leb 4096 k) 0 (length (cells_of r) - k * (r.head.shape.width + 1))) (sym (kept_count r))
 
-  taken_cells : (f : Firsts ℤ) (refused : Option Refusal) → refusal_of row_largest (free_in r) (need_in r) (meaning_of r) f ≡ refused → length (after refused (cells_of r) (written_in r (offer_of f))) ≡ length (cells_of r)
+  taken_cells : (f : Firsts ℤ) (refused : Option Refusal) → refusal_for row_largest (free_in r) (need_in r) (meaning_of r) f ≡ refused → length (after refused (cells_of r) (written_in r (offer_of f))) ≡ length (cells_of r)
   taken_cells f (Some x) e = refl
   taken_cells f None e = written_long r (offer_of f) e
 
@@ -101,7 +100,7 @@ module _ (cells : ℕ) (bs : List ℕ) (most : ℕ) (first : Cursor) (m : Meanin
       not_fed (Ok None) is = refl
       not_fed (Ok (Some f)) is = taken f _ is
         where
-          taken : (g : Firsts ℤ) (x : Option Refusal) → Ok false ≡ result_map_both (λ u. true) (λ e. e) (offer_answer row_largest g x) → fed x (offer_of g) (meaning_of r) ≡ meaning_of r
+          taken : (g : Firsts ℤ) (x : Option Refusal) → Ok false ≡ offered_answer (offer_answer row_largest g x) → fed x (offer_of g) (meaning_of r) ≡ meaning_of r
           taken g (Some x) e = refl
           taken g None e = grind (arith, e)
 

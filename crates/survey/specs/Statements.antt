@@ -36,7 +36,7 @@ range_lines ns rs = flat_map (λ p. range_line p.0 p.1) (zip ns rs)
 -- the states, their ticks, and the rows that keep them: the free cells, all cells, and the longest stay
 abbrev pub sum_lines : Summary → ℕ → List ℕ
 sum_lines s free =
-    codes "\r\nstates," ++ (decimal s.states ++ (codes "\r\nticks," ++ (decimal s.ticks ++ (codes "\r\nrows," ++ (decimal free ++ codes ",16384,100000\r\n")))))
+    codes "\r\nstates," ++ (decimal s.states ++ (codes "\r\nticks," ++ (decimal s.ticks ++ (codes "\r\nrows," ++ (decimal free ++ (codes "," ++ (decimal 16384 ++ (codes "," ++ (decimal 100000 ++ crlf)))))))))
 
 abbrev pub held_lines : Surveyed → List ℕ
 held_lines s = codes "columns" ++ column_names s.names ++ sum_lines s.summary s.free ++ range_lines s.names s.summary.ranges

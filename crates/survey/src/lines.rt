@@ -8,6 +8,7 @@ use super::range::Range;
 use super::summary::Summary;
 use super::whole::Survey;
 use records::Refusal;
+use runs::Shape;
 use std::alloc::{AllocError, Global};
 
 // The cells that a run file is kept in.
@@ -51,8 +52,9 @@ impl Lines {
     {
         let Summary { states, ticks, .. } = survey.summary;
         let free = survey.free;
+        let longest = Shape::LONGEST;
         let sums = format!(in self.heap;
-            "\r\nstates,{states}\r\nticks,{ticks}\r\nrows,{free},16384,100000\r\n"
+            "\r\nstates,{states}\r\nticks,{ticks}\r\nrows,{free},{CELLS},{longest}\r\n"
         )?;
         self.bytes.extend_from_slice(sums.as_bytes())
     }

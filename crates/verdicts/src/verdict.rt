@@ -12,7 +12,7 @@ pub enum Verdict {
     Undecided,
 }
 
-// The mark of a part that is a number and has no verdict.
+// The caller's bytes, by the C interface: 3 marks a part that is a number and has no verdict.
 const NUMBER: u8 = 3;
 
 // The byte of a part: that of its verdict, or the mark of a number.
