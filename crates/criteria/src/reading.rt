@@ -13,6 +13,7 @@ use records::Fields;
 // The most bytes of a text and of a run file.
 const LONGEST_TEXT: usize = 4_096;
 
+// The limit of run files, which criteria tests before the header does.
 const LARGEST_FILE: usize = 65_536;
 
 fn is_lawful_length(text: &[u8], file: &[u8]) -> bool
@@ -43,9 +44,7 @@ pub fn read(
     if !is_lawful_length(text, file) {
         return Err(CriterionFault::Length);
     }
-    let Some(largest) = lawful_magnitude(magnitude) else {
-        return Err(CriterionFault::Magnitude);
-    };
+    let largest = lawful_magnitude(magnitude).ok_or(CriterionFault::Magnitude)?;
     let mut fields = Fields::over(file);
     let header = fields.header()?;
     *place = read_text(

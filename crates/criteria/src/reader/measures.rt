@@ -148,7 +148,7 @@ impl<'t> Reader<'t> {
         Ok(Operand { at, bound })
     }
 
-    // A measure, where so many nestings are left.
+    // A measure, where so many nestings are left. The nesting left is a parameter, since it falls at each call.
     #[cycle(arguments_call_measure_one_argument_two_arguments_window_argument)]
     pub(super) fn measure(&mut self, left: usize, context: Context) -> Result<Operand, Breach>
         ensures { Does (measure_way self.old.scope.now left (is_inside context)) self.old result self.new }
