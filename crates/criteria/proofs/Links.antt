@@ -63,16 +63,6 @@ pub record Reached (left level : ℕ) (p : PropertyTree) (v : View) (at : ℕ) (
   pub place : at ≡ length v.parts + property_size (property_of (columns_of v.scope) found) - 1
 
 module _ (left level : ℕ) (p : PropertyTree) (v : View) where
-  pub reached_first : (at : ℕ) (w : View) → Ends (columns_of v.scope) v p w at → Reached left level p v at w
-  reached_first at w e = record {
-    most = length v.spots;
-    found = p;
-    enough = omega (arith, ap (λ (y : View). length y.spots) e.state);
-    reads = ap (λ (y : View). links (length v.spots) (rules_of v.scope) level (tier (rules_of v.scope) (operand (rules_of v.scope) left) (level - 1)) p y.brought y.spots) (sym e.state);
-    grew = wrote v w (property_parts (length v.parts) (property_of (columns_of v.scope) p)) v.brought v.spots e.state;
-    place = e.place;
-  }
-
   module _ (at : ℕ) (w : View) (r : Reached left level p v at w) where
     pub reached_more : (x : ConnectiveSign) (next : ℕ) (u : View) → Some x ≡ sign_at level (first w.spots).tok → Follows (linked_way w.scope left (level - 1) r.found x at) w (Ok next) u → Reached left level p v next u
     reached_more x next u sign h =

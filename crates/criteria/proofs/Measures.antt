@@ -215,6 +215,7 @@ module _ (v : View) (s : Statistic) (left : ℕ) (inside : Bool) where
         grew = subst (λ (k : ℕ). Grown v (measure_parts k M) w) here (both v u w [] (measure_parts (length u.parts) M) p.grew q.grew);
       })
 
+-- no opening bracket is read where no nesting is left
 no_opening : {A : Type 0} (is_open : Bool) (a : A) (m : ℕ) (s t : List Spot) → cond is_open (refuse 6 s) (refuse 2 s) ≡ got a m t → ⊥
 no_opening true a m s t e = cc
 no_opening false a m s t e = cc
