@@ -221,9 +221,9 @@ no_opening true a m s t e = cc
 no_opening false a m s t e = cc
 
 -- where an opening bracket is read, a nesting is left
-some_left : (left n m : ℕ) (s t : List Spot) → opening left n s ≡ got tt m t → left ≡ suc (left - 1)
-some_left zero n m s t e = absurd (no_opening (is_mark Open (first s).tok) tt m s t e)
-some_left (suc left) n m s t e = omega arith
+nesting_left : (left n m : ℕ) (s t : List Spot) → opening left n s ≡ got tt m t → left ≡ suc (left - 1)
+nesting_left zero n m s t e = absurd (no_opening (is_mark Open (first s).tok) tt m s t e)
+nesting_left (suc left) n m s t e = omega arith
 
 -- a function's name, its bracket, its arguments, its closing bracket and its part
 module _ (f : Function) (left : ℕ) (inside : Bool) (v : View) where
@@ -254,7 +254,7 @@ module _ (f : Function) (left : ℕ) (inside : Bool) (v : View) where
       record {
         reads =
             goes behind_name p.reads ∙ ap (λ (y : View). and_then (opening left y.brought y.spots) behind_opening) (sym on) ∙ goes behind_opening q.reads
-            ∙ ap (λ (k : ℕ). and_then (arguments_of (rules_of v.scope) f k inside u.brought u.spots) closing) (some_left left b.brought u.brought b.spots u.spots q.reads);
+            ∙ ap (λ (k : ℕ). and_then (arguments_of (rules_of v.scope) f k inside u.brought u.spots) closing) (nesting_left left b.brought u.brought b.spots u.spots q.reads);
         grew = both v a u [] [] p.grew (both a b u [] [] (unmoved a b a.brought (rest a.spots) on) q.grew);
       }
 

@@ -6,8 +6,8 @@ ghost use Rattle.criteria.specs.States.{AtToken, Balanced, Does, Follows, View, 
 ghost use Rattle.criteria.specs.Ways.{Ends, bracketed_way, change_comparison_way, columns_of, compared_way, comparison_way, index_way, lead_way, link_way, linked_way, links_way, next_lead_way, operand_way, prefix_sign_way, prefixed_way, tier_way};
 
 use super::super::fault::{Breach, Rule};
-use super::operands::Context;
 use super::Reader;
+use super::operands::Context;
 use parts::{Connective, Part, Prefix, Quantity};
 use tokens::{ConnectiveSign, PrefixSign, Punctuation, Sign, Word};
 
