@@ -18,7 +18,7 @@ use Rattle.criteria.specs.declared.fault.Breach.{Breach}
 use Rattle.criteria.specs.declared.scope.Scope.{Scope}
 use Rattle.criteria.proofs.Comparisons.{Fits}
 use Rattle.criteria.proofs.Forward.{linked_forward, some_left}
-use Rattle.criteria.proofs.Passing.{Grown, both, breaks, follows, goes, grew, longer, passed, reads_as, same_got, scoped, then_got, wrote}
+use Rattle.criteria.proofs.Passing.{Grown, both, breaks, follows, goes, grew, longer, passed, reads_as, same_got, scoped, then_got}
 
 linked_found : (rules : Rules) (inner : Reader PropertyTree) (p : PropertyTree) (x : ConnectiveSign) (n : ℕ) (s : List Spot) (a : PropertyTree) (k : ℕ) (u : List Spot) → linked rules inner p x n s ≡ got a k u → (l : Link) × (q : PropertyTree) × (a ≡ tree.joined l p q)
 linked_found rules inner p x n s a k u e =
@@ -62,53 +62,42 @@ pub record Reached (left level : ℕ) (p : PropertyTree) (v : View) (at : ℕ) (
   pub grew : Grown v (property_parts (length v.parts) (property_of (columns_of v.scope) found)) w
   pub place : at ≡ length v.parts + property_size (property_of (columns_of v.scope) found) - 1
 
-module _ (left level : ℕ) (p : PropertyTree) (v : View) where
-  pub reached_first : (at : ℕ) (w : View) → Ends (columns_of v.scope) v p w at → Reached left level p v at w
-  reached_first at w e = record {
-    most = length v.spots;
-    found = p;
-    enough = omega (arith, ap (λ (y : View). length y.spots) e.state);
-    reads = ap (λ (y : View). links (length v.spots) (rules_of v.scope) level (tier (rules_of v.scope) (operand (rules_of v.scope) left) (level - 1)) p y.brought y.spots) (sym e.state);
-    grew = wrote v w (property_parts (length v.parts) (property_of (columns_of v.scope) p)) v.brought v.spots e.state;
-    place = e.place;
-  }
+module _ (left level : ℕ) (p : PropertyTree) (v : View) (at : ℕ) (w : View) (r : Reached left level p v at w) where
+  pub reached_more : (x : ConnectiveSign) (next : ℕ) (u : View) → Some x ≡ sign_at level (first w.spots).tok → Follows (linked_way w.scope left (level - 1) r.found x at) w (Ok next) u → Reached left level p v next u
+  reached_more x next u sign h =
+      let rules = rules_of v.scope in
+      let inner = tier rules (operand rules left) (level - 1) in
+      let base = length v.parts in
+      let P = property_of (columns_of v.scope) r.found in
+      let q = passed (linked_way v.scope left (level - 1) r.found x at) w next u (scoped (λ s. linked_way s left (level - 1) r.found x at) w (Ok next) u r.grew.scope h) in
+      let on = links_on r.most rules level inner r.found w.brought w.spots x sign r.enough in
+      let f = linked_found rules inner r.found x w.brought w.spots q.found u.brought u.spots q.reads in
+      let fits : Fits (columns_of v.scope) (property_parts base P) at base (length w.parts) q.found =
+      subst (λ (a : PropertyTree). Fits (columns_of v.scope) (property_parts base P) at base (length w.parts) a) (sym f.2)
+      (joined_fits (columns_of v.scope) f.0 r.found f.1 at base (length w.parts) (omega (arith, longer v w (property_parts base P) r.grew, length_property_parts P base)) r.place) in
+      record {
+        most = on.0;
+        found = q.found;
+        enough = omega (arith, r.enough, on.1, linked_forward rules left (level - 1) level r.found x w.brought w.spots q.found u.brought u.spots sign q.reads);
+        reads = r.reads ∙ on.2 ∙ goes (links on.0 rules level inner) q.reads;
+        grew = subst (λ (qs : List Part). Grown v qs u) (sym fits.parts) (both v w u (property_parts base P) (behind_left at (length w.parts) (property_of (columns_of v.scope) q.found)) r.grew q.grew);
+        place = q.value ∙ sym fits.size;
+      }
 
-  module _ (at : ℕ) (w : View) (r : Reached left level p v at w) where
-    pub reached_more : (x : ConnectiveSign) (next : ℕ) (u : View) → Some x ≡ sign_at level (first w.spots).tok → Follows (linked_way w.scope left (level - 1) r.found x at) w (Ok next) u → Reached left level p v next u
-    reached_more x next u sign h =
-        let rules = rules_of v.scope in
-        let inner = tier rules (operand rules left) (level - 1) in
-        let base = length v.parts in
-        let P = property_of (columns_of v.scope) r.found in
-        let q = passed (linked_way v.scope left (level - 1) r.found x at) w next u (scoped (λ s. linked_way s left (level - 1) r.found x at) w (Ok next) u r.grew.scope h) in
-        let on = links_on r.most rules level inner r.found w.brought w.spots x sign r.enough in
-        let f = linked_found rules inner r.found x w.brought w.spots q.found u.brought u.spots q.reads in
-        let fits : Fits (columns_of v.scope) (property_parts base P) at base (length w.parts) q.found =
-        subst (λ (a : PropertyTree). Fits (columns_of v.scope) (property_parts base P) at base (length w.parts) a) (sym f.2)
-        (joined_fits (columns_of v.scope) f.0 r.found f.1 at base (length w.parts) (omega (arith, longer v w (property_parts base P) r.grew, length_property_parts P base)) r.place) in
-        record {
-          most = on.0;
-          found = q.found;
-          enough = omega (arith, r.enough, on.1, linked_forward rules left (level - 1) level r.found x w.brought w.spots q.found u.brought u.spots sign q.reads);
-          reads = r.reads ∙ on.2 ∙ goes (links on.0 rules level inner) q.reads;
-          grew = subst (λ (qs : List Part). Grown v qs u) (sym fits.parts) (both v w u (property_parts base P) (behind_left at (length w.parts) (property_of (columns_of v.scope) q.found)) r.grew q.grew);
-          place = q.value ∙ sym fits.size;
-        }
+  pub reached_broken : (x : ConnectiveSign) (e : Breach) (u z : View) → Some x ≡ sign_at level (first w.spots).tok → Follows (linked_way w.scope left (level - 1) r.found x at) w (Err e) u → Follows (links_way v.scope left level p) v (Err e) z
+  reached_broken x e u z sign h =
+      let rules = rules_of v.scope in
+      let inner = tier rules (operand rules left) (level - 1) in
+      let on = links_on r.most rules level inner r.found w.brought w.spots x sign r.enough in
+      breaks (linked_way v.scope left (level - 1) r.found x at) (links_way v.scope left level p) v w e u z (links on.0 rules level inner) (r.reads ∙ on.2) (scoped (λ s. linked_way s left (level - 1) r.found x at) w (Err e) u r.grew.scope h)
 
-    pub reached_broken : (x : ConnectiveSign) (e : Breach) (u z : View) → Some x ≡ sign_at level (first w.spots).tok → Follows (linked_way w.scope left (level - 1) r.found x at) w (Err e) u → Follows (links_way v.scope left level p) v (Err e) z
-    reached_broken x e u z sign h =
-        let rules = rules_of v.scope in
-        let inner = tier rules (operand rules left) (level - 1) in
-        let on = links_on r.most rules level inner r.found w.brought w.spots x sign r.enough in
-        breaks (linked_way v.scope left (level - 1) r.found x at) (links_way v.scope left level p) v w e u z (links on.0 rules level inner) (r.reads ∙ on.2) (scoped (λ s. linked_way s left (level - 1) r.found x at) w (Err e) u r.grew.scope h)
-
-    pub reached_all : None ≡ sign_at level (first w.spots).tok → Follows (links_way v.scope left level p) v (Ok at) w
-    reached_all none = follows (links_way v.scope left level p) v at w (record {
-      found = r.found;
-      reads = r.reads ∙ links_none r.most (rules_of v.scope) level (tier (rules_of v.scope) (operand (rules_of v.scope) left) (level - 1)) r.found w.brought w.spots none;
-      value = r.place;
-      grew = r.grew;
-    })
+  pub reached_all : None ≡ sign_at level (first w.spots).tok → Follows (links_way v.scope left level p) v (Ok at) w
+  reached_all none = follows (links_way v.scope left level p) v at w (record {
+    found = r.found;
+    reads = r.reads ∙ links_none r.most (rules_of v.scope) level (tier (rules_of v.scope) (operand (rules_of v.scope) left) (level - 1)) r.found w.brought w.spots none;
+    value = r.place;
+    grew = r.grew;
+  })
 
 -- a link leaves fewer tokens
 pub link_forward : (scope : Scope) (left level : ℕ) (x : ConnectiveSign) (at next : ℕ) (w u : View) → Some x ≡ sign_at level (first w.spots).tok → ((p : PropertyTree) → Follows (linked_way scope left (level - 1) p x at) w (Ok next) u) → (p : PropertyTree) → length u.spots < length w.spots

@@ -1,5 +1,5 @@
 -- The calls that read a measure, one after the other, are the grammar's reading of it.
-use Rattle.std.proofs.Common.{◌≡◌, ℕ, zero, suc, ◌+◌, ◌-◌, ◌<◌, Bool, true, false, cond, List, [], ◌∷◌, ◌++◌, length, pos, nat_abs, Ok, Err, Result, sym, refl, ap, ◌∙◌, subst, arith}
+use Rattle.std.proofs.Common.{◌≡◌, ℕ, zero, suc, ◌+◌, ◌-◌, Bool, true, false, cond, List, [], ◌∷◌, ◌++◌, length, pos, nat_abs, Ok, Err, Result, sym, refl, ap, ◌∙◌, subst, arith}
 use Rattle.std.proofs.lemmas.List.{length-append}
 use Rattle.parts.specs.Bounds.{binary_bound, binary_kept, bound_of, if_kept, statistic_bound, statistic_kept, unary_bound, unary_kept}
 use Rattle.parts.specs.Formulas as formula
@@ -15,7 +15,7 @@ use Rattle.parts.specs.declared.kinds.Unary.{Unary}
 use Rattle.parts.specs.declared.kinds.Window.{Window}
 use Rattle.parts.proofs.TreesOfParts.{length_property_parts}
 use Rattle.tokens.specs.Tokens.{Spot, Tok}
-use Rattle.tokens.specs.declared.words.Punctuation.TheVariants.{Close, Comma}
+use Rattle.tokens.specs.declared.words.Punctuation.TheVariants.{Open, Close, Comma}
 use Rattle.tokens.specs.declared.words.Sign.{Sign}
 use Rattle.tokens.specs.Told.{tok_of}
 use Rattle.tokens.specs.declared.words.Word.{Word}
@@ -56,10 +56,9 @@ arguments_length : (at : ℕ) (m : Measure) → length (argument_parts at m) + 1
 arguments_length at m = sym (length-append (argument_parts at m) (own_part at m ∷ [])) ∙ ap (λ (ps : List Part). length ps) (sym (own_last at m)) ∙ measure_length m at
 
 -- an argument is a measure with one nesting less
-pub argument_measure : (rules : Rules) (left : ℕ) (inside : Bool) (n : ℕ) (s : List Spot) → 0 < left → argument rules left inside n s ≡ measure rules (left - 1) inside n s
+argument_measure : (rules : Rules) (left : ℕ) (inside : Bool) (n : ℕ) (s : List Spot) → argument rules (suc left) inside n s ≡ measure rules left inside n s
 unfolding argument
-argument_measure rules zero inside n s h = absurd (omega arith)
-argument_measure rules (suc left) inside n s h = ap (λ (k : ℕ). measure rules k inside n s) (omega arith)
+argument_measure rules left inside n s = refl
 
 measure_step : (rules : Rules) (left : ℕ) (inside : Bool) (n : ℕ) (s : List Spot) → measure rules left inside n s ≡ measure_at rules left inside (argument rules left) (first s).tok n s
 unfolding argument measure
@@ -112,26 +111,26 @@ ended true false m a n k place s t u e = cc
 ended false kept m a n k place s t u e = cc
 
 -- the arguments of a function
-pub one_read : (scope : Scope) (u : Unary) (left : ℕ) (inside : Bool) (v w : View) (o : Operand) → 0 < left → Follows (measure_way scope (left - 1) inside) v (Ok o) w → Follows (arguments_way scope (function.Unary u) left inside) v (Ok (record { part = part.Unary u; bound = if_kept (unary_kept u o.bound) (unary_bound u o.bound) })) w
-one_read scope u left inside v w o h f =
-    let p = passed (measure_way scope (left - 1) inside) v o w f in
+pub one_read : (scope : Scope) (u : Unary) (left : ℕ) (inside : Bool) (v w : View) (o : Operand) → Follows (measure_way scope left inside) v (Ok o) w → Follows (arguments_way scope (function.Unary u) left inside) v (Ok (record { part = part.Unary u; bound = if_kept (unary_kept u o.bound) (unary_bound u o.bound) })) w
+one_read scope u left inside v w o f =
+    let p = passed (measure_way scope left inside) v o w f in
     follows (arguments_way scope (function.Unary u) left inside) v (record { part = part.Unary u; bound = if_kept (unary_kept u o.bound) (unary_bound u o.bound) }) w (record {
       found = tree.unary u p.found;
-      reads = goes (λ m n s. got (tree.unary u m) n s) (argument_measure (rules_of scope) left inside v.brought v.spots h ∙ p.reads);
+      reads = goes (λ m n s. got (tree.unary u m) n s) (argument_measure (rules_of scope) left inside v.brought v.spots ∙ p.reads);
       value = ap (λ (x : Operand). record { part = part.Unary u; bound = if_kept (unary_kept u x.bound) (unary_bound u x.bound) }) p.value;
       grew = p.grew;
     })
 
-pub one_broken : (scope : Scope) (u : Unary) (left : ℕ) (inside : Bool) (v w x : View) (b : Breach) → 0 < left → Follows (measure_way scope (left - 1) inside) v (Err b) w → Follows (arguments_way scope (function.Unary u) left inside) v (Err b) x
-one_broken scope u left inside v w x b h f =
+pub one_broken : (scope : Scope) (u : Unary) (left : ℕ) (inside : Bool) (v w x : View) (b : Breach) → Follows (measure_way scope left inside) v (Err b) w → Follows (arguments_way scope (function.Unary u) left inside) v (Err b) x
+one_broken scope u left inside v w x b f =
     let make = λ (m : MeasureTree) (n : ℕ) (s : List Spot). got (tree.unary u m) n s in
-    breaks (measure_way scope (left - 1) inside) (arguments_way scope (function.Unary u) left inside) v v b w x make
-    (ap (λ (o : Outcome MeasureTree). and_then o make) (argument_measure (rules_of scope) left inside v.brought v.spots h)) f
+    breaks (measure_way scope left inside) (arguments_way scope (function.Unary u) left inside) v v b w x make
+    (ap (λ (o : Outcome MeasureTree). and_then o make) (argument_measure (rules_of scope) left inside v.brought v.spots)) f
 
 -- two arguments: how the reading goes on behind the first, and behind the comma
-module _ (v : View) (b : Binary) (left : ℕ) (inside : Bool) (some : 0 < left) where
+module _ (v : View) (b : Binary) (left : ℕ) (inside : Bool) where
   abbrev behind_comma : MeasureTree → Unit {0} → Reader MeasureTree
-  behind_comma l _ n s = and_then (argument (rules_of v.scope) left inside n s) (λ r n s. got (tree.binary b l r) n s)
+  behind_comma l _ n s = and_then (argument (rules_of v.scope) (suc left) inside n s) (λ r n s. got (tree.binary b l r) n s)
 
   abbrev behind_first : MeasureTree → Reader MeasureTree
   behind_first l n s = and_then (punctuation Comma n s) (behind_comma l)
@@ -140,10 +139,10 @@ module _ (v : View) (b : Binary) (left : ℕ) (inside : Bool) (some : 0 < left) 
   two_way = arguments_way v.scope (function.Binary b) left inside
 
   abbrev argument_way : Way MeasureTree Operand
-  argument_way = measure_way v.scope (left - 1) inside
+  argument_way = measure_way v.scope left inside
 
-  an_argument : {A : Type 0} (y : View) (f : MeasureTree → Reader A) → and_then (argument (rules_of v.scope) left inside y.brought y.spots) f ≡ and_then (measure (rules_of v.scope) (left - 1) inside y.brought y.spots) f
-  an_argument y f = ap (λ (o : Outcome MeasureTree). and_then o f) (argument_measure (rules_of v.scope) left inside y.brought y.spots some)
+  an_argument : {A : Type 0} (y : View) (f : MeasureTree → Reader A) → and_then (argument (rules_of v.scope) (suc left) inside y.brought y.spots) f ≡ and_then (measure (rules_of v.scope) left inside y.brought y.spots) f
+  an_argument y f = ap (λ (o : Outcome MeasureTree). and_then o f) (argument_measure (rules_of v.scope) left inside y.brought y.spots)
 
   pub two_broken_first : (w x : View) (e : Breach) → Follows argument_way v (Err e) w → Follows two_way v (Err e) x
   two_broken_first w x e f = breaks argument_way two_way v v e w x behind_first (an_argument v behind_first) f
@@ -153,18 +152,18 @@ module _ (v : View) (b : Binary) (left : ℕ) (inside : Bool) (some : 0 < left) 
       let p = passed argument_way v o u f in
       breaks (punctuation_way Comma) two_way v u e w x (behind_comma p.found) (an_argument v behind_first ∙ goes behind_first p.reads) g
 
-  pub two_broken_second : (u t w x : View) (o : Operand) (e : Breach) → Follows argument_way v (Ok o) u → Follows (punctuation_way Comma) u (Ok tt) t → Follows (measure_way t.scope (left - 1) inside) t (Err e) w → Follows two_way v (Err e) x
+  pub two_broken_second : (u t w x : View) (o : Operand) (e : Breach) → Follows argument_way v (Ok o) u → Follows (punctuation_way Comma) u (Ok tt) t → Follows (measure_way t.scope left inside) t (Err e) w → Follows two_way v (Err e) x
   two_broken_second u t w x o e f g h =
       let p = passed argument_way v o u f in
       let q = passed (punctuation_way Comma) u tt t g in
       let make = λ (r : MeasureTree) (n : ℕ) (s : List Spot). got (tree.binary b p.found r) n s in
-      breaks argument_way two_way v t e w x make (an_argument v behind_first ∙ goes behind_first p.reads ∙ goes (behind_comma p.found) q.reads ∙ an_argument t make) (scoped (λ s. measure_way s (left - 1) inside) t (Err e) w (q.grew.scope ∙ p.grew.scope) h)
+      breaks argument_way two_way v t e w x make (an_argument v behind_first ∙ goes behind_first p.reads ∙ goes (behind_comma p.found) q.reads ∙ an_argument t make) (scoped (λ s. measure_way s left inside) t (Err e) w (q.grew.scope ∙ p.grew.scope) h)
 
-  pub two_read : (u t w : View) (o a : Operand) → Follows argument_way v (Ok o) u → Follows (punctuation_way Comma) u (Ok tt) t → Follows (measure_way t.scope (left - 1) inside) t (Ok a) w → Follows two_way v (Ok (record { part = part.Binary b o.at; bound = if_kept (binary_kept b o.bound a.bound) (binary_bound b o.bound a.bound) })) w
+  pub two_read : (u t w : View) (o a : Operand) → Follows argument_way v (Ok o) u → Follows (punctuation_way Comma) u (Ok tt) t → Follows (measure_way t.scope left inside) t (Ok a) w → Follows two_way v (Ok (record { part = part.Binary b o.at; bound = if_kept (binary_kept b o.bound a.bound) (binary_bound b o.bound a.bound) })) w
   two_read u t w o a f g h =
       let p = passed argument_way v o u f in
       let q = passed (punctuation_way Comma) u tt t g in
-      let r = passed argument_way t a w (scoped (λ s. measure_way s (left - 1) inside) t (Ok a) w (q.grew.scope ∙ p.grew.scope) h) in
+      let r = passed argument_way t a w (scoped (λ s. measure_way s left inside) t (Ok a) w (q.grew.scope ∙ p.grew.scope) h) in
       let make = λ (r : MeasureTree) (n : ℕ) (s : List Spot). got (tree.binary b p.found r) n s in
       let M = measure_of (columns_of v.scope) p.found in
       let N = measure_of (columns_of v.scope) r.found in
@@ -182,29 +181,29 @@ module _ (v : View) (b : Binary) (left : ℕ) (inside : Bool) (some : 0 < left) 
       })
 
 -- a window and an argument
-module _ (v : View) (s : Statistic) (left : ℕ) (inside : Bool) (some : 0 < left) where
+module _ (v : View) (s : Statistic) (left : ℕ) (inside : Bool) where
   abbrev behind_window : (ℕ × ℕ) → Reader MeasureTree
-  behind_window w n z = and_then (argument (rules_of v.scope) left true n z) (λ m n z. got (tree.over s w.0 w.1 m) n z)
+  behind_window w n z = and_then (argument (rules_of v.scope) (suc left) true n z) (λ m n z. got (tree.over s w.0 w.1 m) n z)
 
   abbrev over_way : Way MeasureTree Call
   over_way = arguments_way v.scope (function.Statistic s) left inside
 
   abbrev inside_way : Way MeasureTree Operand
-  inside_way = measure_way v.scope (left - 1) true
+  inside_way = measure_way v.scope left true
 
-  an_inside : {A : Type 0} (y : View) (f : MeasureTree → Reader A) → and_then (argument (rules_of v.scope) left true y.brought y.spots) f ≡ and_then (measure (rules_of v.scope) (left - 1) true y.brought y.spots) f
-  an_inside y f = ap (λ (o : Outcome MeasureTree). and_then o f) (argument_measure (rules_of v.scope) left true y.brought y.spots some)
+  an_inside : {A : Type 0} (y : View) (f : MeasureTree → Reader A) → and_then (argument (rules_of v.scope) (suc left) true y.brought y.spots) f ≡ and_then (measure (rules_of v.scope) left true y.brought y.spots) f
+  an_inside y f = ap (λ (o : Outcome MeasureTree). and_then o f) (argument_measure (rules_of v.scope) left true y.brought y.spots)
 
-  pub over_broken : (u w x : View) (a : Window) (e : Breach) → Follows window_way v (Ok a) u → Follows (measure_way u.scope (left - 1) true) u (Err e) w → Follows over_way v (Err e) x
+  pub over_broken : (u w x : View) (a : Window) (e : Breach) → Follows window_way v (Ok a) u → Follows (measure_way u.scope left true) u (Err e) w → Follows over_way v (Err e) x
   over_broken u w x a e f g =
       let p = passed window_way v a u f in
       let make = λ (m : MeasureTree) (n : ℕ) (z : List Spot). got (tree.over s p.found.0 p.found.1 m) n z in
-      breaks inside_way over_way v u e w x make (goes behind_window p.reads ∙ an_inside u make) (scoped (λ s. measure_way s (left - 1) true) u (Err e) w p.grew.scope g)
+      breaks inside_way over_way v u e w x make (goes behind_window p.reads ∙ an_inside u make) (scoped (λ s. measure_way s left true) u (Err e) w p.grew.scope g)
 
-  pub over_read : (u w : View) (a : Window) (o : Operand) → Follows window_way v (Ok a) u → Follows (measure_way u.scope (left - 1) true) u (Ok o) w → Follows over_way v (Ok (record { part = part.Over s a; bound = if_kept (statistic_kept s o.bound) (statistic_bound s o.bound) })) w
+  pub over_read : (u w : View) (a : Window) (o : Operand) → Follows window_way v (Ok a) u → Follows (measure_way u.scope left true) u (Ok o) w → Follows over_way v (Ok (record { part = part.Over s a; bound = if_kept (statistic_kept s o.bound) (statistic_bound s o.bound) })) w
   over_read u w a o f g =
       let p = passed window_way v a u f in
-      let q = passed inside_way u o w (scoped (λ s. measure_way s (left - 1) true) u (Ok o) w p.grew.scope g) in
+      let q = passed inside_way u o w (scoped (λ s. measure_way s left true) u (Ok o) w p.grew.scope g) in
       let make = λ (m : MeasureTree) (n : ℕ) (z : List Spot). got (tree.over s p.found.0 p.found.1 m) n z in
       let M = measure_of (columns_of v.scope) q.found in
       let here : length u.parts ≡ length v.parts = omega (arith, longer v u [] p.grew) in
@@ -216,13 +215,23 @@ module _ (v : View) (s : Statistic) (left : ℕ) (inside : Bool) (some : 0 < lef
         grew = subst (λ (k : ℕ). Grown v (measure_parts k M) w) here (both v u w [] (measure_parts (length u.parts) M) p.grew q.grew);
       })
 
+-- no opening bracket is read where no nesting is left
+no_opening : {A : Type 0} (is_open : Bool) (a : A) (m : ℕ) (s t : List Spot) → cond is_open (refuse 6 s) (refuse 2 s) ≡ got a m t → ⊥
+no_opening true a m s t e = cc
+no_opening false a m s t e = cc
+
+-- where an opening bracket is read, a nesting is left
+nesting_left : (left n m : ℕ) (s t : List Spot) → opening left n s ≡ got tt m t → left ≡ suc (left - 1)
+nesting_left zero n m s t e = absurd (no_opening (is_mark Open (first s).tok) tt m s t e)
+nesting_left (suc left) n m s t e = omega arith
+
 -- a function's name, its bracket, its arguments, its closing bracket and its part
 module _ (f : Function) (left : ℕ) (inside : Bool) (v : View) where
   abbrev whole_way : Way MeasureTree Operand
   whole_way = call_way v.scope f left inside
 
   abbrev given_way : Way MeasureTree Call
-  given_way = arguments_way v.scope f left inside
+  given_way = arguments_way v.scope f (left - 1) inside
 
   abbrev closing : MeasureTree → Reader MeasureTree
   closing m n t = ending (rules_of v.scope) (first v.spots).at m n t
@@ -235,7 +244,7 @@ module _ (f : Function) (left : ℕ) (inside : Bool) (v : View) where
 
   -- the reading stands before the arguments
   pub record Opened (u : View) : Type 0 where
-    pub reads : call (rules_of v.scope) left (arguments_of (rules_of v.scope) f left inside) v.brought v.spots ≡ and_then (arguments_of (rules_of v.scope) f left inside u.brought u.spots) closing
+    pub reads : call (rules_of v.scope) left (arguments_of (rules_of v.scope) f left inside) v.brought v.spots ≡ and_then (arguments_of (rules_of v.scope) f (suc (left - 1)) inside u.brought u.spots) closing
     pub grew : Grown v [] u
 
   pub opened : (a b u : View) → Follows bring_way v (Ok tt) a → b ≡ moved a a.brought (rest a.spots) → Follows (opening_way left) b (Ok tt) u → Opened u
@@ -243,12 +252,14 @@ module _ (f : Function) (left : ℕ) (inside : Bool) (v : View) where
       let p = passed bring_way v tt a brought in
       let q = passed (opening_way left) b tt u open' in
       record {
-        reads = goes behind_name p.reads ∙ ap (λ (y : View). and_then (opening left y.brought y.spots) behind_opening) (sym on) ∙ goes behind_opening q.reads;
+        reads =
+            goes behind_name p.reads ∙ ap (λ (y : View). and_then (opening left y.brought y.spots) behind_opening) (sym on) ∙ goes behind_opening q.reads
+            ∙ ap (λ (k : ℕ). and_then (arguments_of (rules_of v.scope) f k inside u.brought u.spots) closing) (nesting_left left b.brought u.brought b.spots u.spots q.reads);
         grew = both v a u [] [] p.grew (both a b u [] [] (unmoved a b a.brought (rest a.spots) on) q.grew);
       }
 
-  pub call_broken : (u w x : View) (e : Breach) → Opened u → Follows (arguments_way u.scope f left inside) u (Err e) w → Follows whole_way v (Err e) x
-  call_broken u w x e o g = breaks given_way whole_way v u e w x closing o.reads (scoped (λ s. arguments_way s f left inside) u (Err e) w o.grew.scope g)
+  pub call_broken : (u w x : View) (e : Breach) → Opened u → Follows (arguments_way u.scope f (left - 1) inside) u (Err e) w → Follows whole_way v (Err e) x
+  call_broken u w x e o g = breaks given_way whole_way v u e w x closing o.reads (scoped (λ s. arguments_way s f (left - 1) inside) u (Err e) w o.grew.scope g)
 
   -- the closing bracket is read in the v.scope that the name was read in
   closed : (u t : View) (made : Call) (place : ℕ) (p : Passed given_way u made t) → Opened u → (r : Result ℕ Breach) (w : View) → ((m : MeasureTree) → made.bound ≡ kept_bound t.scope m → Follows (ending_way t.scope place m) t r w) → Follows (ending_way v.scope place p.found) t r w
@@ -256,18 +267,18 @@ module _ (f : Function) (left : ℕ) (inside : Bool) (v : View) where
       let e = p.grew.scope ∙ o.grew.scope in
       scoped (λ s. ending_way s place p.found) t r w e (h p.found (ap (λ (k : Call). k.bound) p.value ∙ ap (λ (s : Scope). kept_bound s p.found) (sym e)))
 
-  pub ending_broken : (u t w x : View) (made : Call) (place : ℕ) (e : Breach) → Opened u → place ≡ (first v.spots).at → Follows (arguments_way u.scope f left inside) u (Ok made) t → ((m : MeasureTree) → made.bound ≡ kept_bound t.scope m → Follows (ending_way t.scope place m) t (Err e) w) → Follows whole_way v (Err e) x
+  pub ending_broken : (u t w x : View) (made : Call) (place : ℕ) (e : Breach) → Opened u → place ≡ (first v.spots).at → Follows (arguments_way u.scope f (left - 1) inside) u (Ok made) t → ((m : MeasureTree) → made.bound ≡ kept_bound t.scope m → Follows (ending_way t.scope place m) t (Err e) w) → Follows whole_way v (Err e) x
   ending_broken u t w x made place e o at g h =
-      let p = passed given_way u made t (scoped (λ s. arguments_way s f left inside) u (Ok made) t o.grew.scope g) in
+      let p = passed given_way u made t (scoped (λ s. arguments_way s f (left - 1) inside) u (Ok made) t o.grew.scope g) in
       let q = stopped (ending_way v.scope place p.found) t e w (closed u t made place p o (Err e) w h) in
       refuses whole_way v e x (record {
         left = q.left;
         reads = o.reads ∙ goes closing p.reads ∙ ap (λ (k : ℕ). ending (rules_of v.scope) k p.found t.brought t.spots) (sym at) ∙ q.reads;
       })
 
-  pub call_read : (u t y w : View) (made : Call) (place bound at : ℕ) → Opened u → place ≡ (first v.spots).at → Follows (arguments_way u.scope f left inside) u (Ok made) t → ((m : MeasureTree) → made.bound ≡ kept_bound t.scope m → Follows (ending_way t.scope place m) t (Ok bound) y) → w ≡ grown y (made.part ∷ []) y.brought y.spots → at ≡ length y.parts → Follows whole_way v (Ok (record { at = at; bound = bound })) w
+  pub call_read : (u t y w : View) (made : Call) (place bound at : ℕ) → Opened u → place ≡ (first v.spots).at → Follows (arguments_way u.scope f (left - 1) inside) u (Ok made) t → ((m : MeasureTree) → made.bound ≡ kept_bound t.scope m → Follows (ending_way t.scope place m) t (Ok bound) y) → w ≡ grown y (made.part ∷ []) y.brought y.spots → at ≡ length y.parts → Follows whole_way v (Ok (record { at = at; bound = bound })) w
   call_read u t y w made place bound at o same g h written index =
-      let p = passed given_way u made t (scoped (λ s. arguments_way s f left inside) u (Ok made) t o.grew.scope g) in
+      let p = passed given_way u made t (scoped (λ s. arguments_way s f (left - 1) inside) u (Ok made) t o.grew.scope g) in
       let m = p.found in
       let M = measure_of (columns_of v.scope) m in
       let q = passed (ending_way v.scope place m) t bound y (closed u t made place p o (Ok bound) y h) in

@@ -36,7 +36,7 @@ view r = record {
   behind = drop r.count r.parts;
 }
 
--- the token at hand is not the end
+-- The token at hand is not the end. A fact of a moment and no type: it holds until the next token is taken.
 abbrev pub AtToken : Reader → Type 0
 AtToken r = is_stop (reading.first (view r).spots).tok ≡ false
 
@@ -70,7 +70,7 @@ Follows way v r w = told r w ≡ image way v (way.read v.brought v.spots)
 abbrev pub Balanced : Reader → Reader → Type 0
 Balanced a b = b.count + a.brought ≡ b.brought + a.count
 
--- a call did what its way says: it answered and left that, and wrote as many parts as it brought
+-- A call did what its way says: it answered and left that, and wrote as many parts as it brought. Where the answer is told for every tree or context, the two stand as two clauses, since the balance depends on none.
 pub record Does {A B : Type 0} (way : Way A B) (a : Reader) (r : Result B Breach) (b : Reader) : Type 0 where
   pub answer : Follows way (view a) r (view b)
   pub balance : OnOk r (Balanced a b)

@@ -125,9 +125,10 @@ kept_bound scope m = if_kept (bound_kept scope.magnitude (measure_of (columns_of
 abbrev pub called : Scope → ℕ → MeasureTree → Call
 called scope at m = record { part = own_part at (measure_of (columns_of scope) m); bound = kept_bound scope m }
 
+-- so many nestings are left inside the brackets
 abbrev pub arguments_way : Scope → Function → ℕ → Bool → Way MeasureTree Call
 arguments_way scope f left inside = record {
-  read = arguments_of (rules_of scope) f left inside;
+  read = arguments_of (rules_of scope) f (suc left) inside;
   value = called scope;
   parts = λ at m. argument_parts at (measure_of (columns_of scope) m);
 }

@@ -23,6 +23,7 @@ pub enum Rule {
 }
 
 impl Rule {
+    // Its number, which the language lays down.
     pub fn number(self) -> u8
         ensures { result ≡ rule_number self }
     {
@@ -73,6 +74,7 @@ impl From<Breach> for CriterionFault {
 }
 
 // Its number, and the index of a byte of the text, or of the run file where the header is at fault.
+// Place 0: no byte is at fault.
 impl From<CriterionFault> for Refusal {
     ghost from_gives = { λ f r. r ≡ refusal_of f };
 

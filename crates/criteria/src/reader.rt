@@ -29,7 +29,7 @@ pub struct Reader<'t> {
     scope: &'t Scope<'t>,
     lexer: Lexer<'t>,
     token: Token<'t>,
-    // Fixed memory with a count, which becomes the formula's: there is no heap.
+    // Fixed memory with a count, which becomes the formula's once the text is whole: there is no heap.
     parts: [Part; MOST_PARTS],
     // How many parts are written, and how many the tokens so far have brought.
     count: usize,

@@ -8,13 +8,12 @@ use super::fault::CriterionFault;
 use super::formula::Formula;
 use super::reader::read_text;
 use super::scope::{LARGEST_MAGNITUDE, Scope};
-use records::Fields;
+use records::{Fields, LARGEST_FILE};
 
-// The most bytes of a text and of a run file.
+// The most bytes of a text.
 const LONGEST_TEXT: usize = 4_096;
 
-const LARGEST_FILE: usize = 65_536;
-
+// The limit of run files is tested here, before the header's reading tests it.
 fn is_lawful_length(text: &[u8], file: &[u8]) -> bool
     ensures { result ≡ lawful_length text.now file.now }
 {
@@ -43,9 +42,7 @@ pub fn read(
     if !is_lawful_length(text, file) {
         return Err(CriterionFault::Length);
     }
-    let Some(largest) = lawful_magnitude(magnitude) else {
-        return Err(CriterionFault::Magnitude);
-    };
+    let largest = lawful_magnitude(magnitude).ok_or(CriterionFault::Magnitude)?;
     let mut fields = Fields::over(file);
     let header = fields.header()?;
     *place = read_text(

@@ -10,7 +10,7 @@ const MOST: u64 = 10_000_000_000_000;
 // No factor's bound may pass this.
 const MOST_FACTOR: u64 = 1_000_000_000;
 
-// A run has at most so many states.
+// A run has at most so many states. Said here too: this crate stands on no other.
 const MOST_STATES: u64 = 4_096;
 
 fn within(most: u64, bound: u64) -> Option<u64>

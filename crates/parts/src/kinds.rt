@@ -68,7 +68,8 @@ pub enum Connective {
     Until(Window),
 }
 
-// One part of a criterion. Its operands stand before it: the only one, or the right one, just before, and the left one at the index that the part names. An index and no box: parts are kept in the caller's fixed memory, with no heap.
+// One part of a criterion. Its operands stand before it: the only one, or the right one, just before, and the left one at the index that the part names.
+// An index and no box: parts are kept in the caller's fixed memory, with no heap.
 #[derive(Clone, Copy, PartialEq, Eq, Debug)]
 pub enum Part {
     Numeral(i64),

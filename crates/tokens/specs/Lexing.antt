@@ -81,12 +81,16 @@ printables bs = prefix_len is_printable bs
 abbrev pub name_scan : List ℕ → Scan
 name_scan bs = record { tok = named (take (letters bs) bs); size = letters bs }
 
+-- a numeral of so many bytes
+abbrev pub figure_scan : ℕ → List ℕ → Scan
+figure_scan size bs = record { tok = figure (take size bs); size = size }
+
 abbrev pub digits_scan : List ℕ → Scan
-digits_scan bs = record { tok = figure (take (digits bs) bs); size = digits bs }
+digits_scan bs = figure_scan (digits bs) bs
 
 -- a sign begins a numeral only if a digit follows
 abbrev pub sign_scan : List ℕ → Scan
-sign_scan bs = cond (digits (drop 1 bs) == 0) (single stray) (record { tok = figure (take (1 + digits (drop 1 bs)) bs); size = 1 + digits (drop 1 bs) })
+sign_scan bs = cond (digits (drop 1 bs) == 0) (single stray) (figure_scan (1 + digits (drop 1 bs)) bs)
 
 -- the name of a variable has 1 to 64 bytes, and a brace closes it
 abbrev pub closes : List ℕ → Bool

@@ -286,6 +286,7 @@ static CLASSES: [Class; 256] = [
     Class::Other,
 ];
 
+// `as`: of `usize::from` the computed comparison of the table knows nothing.
 pub(crate) fn class_of(b: u8) -> Class
     ensures { result ≡ class_of b }
 {

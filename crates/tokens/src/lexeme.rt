@@ -2,7 +2,7 @@
 ghost use Rattle.std.specs.Prelude.{◌≡◌, ◌<◌, ◌≤◌, length, slice_index};
 ghost use Rattle.std.specs.Int.{is_in_range};
 ghost use Rattle.tokens.specs.Classes.{is_printable};
-ghost use Rattle.tokens.specs.Lexing.{comparator_scan, digits_scan, name_scan, scan, scan_by, sign_scan, single, variable_scan, wide_scan, wide_sign};
+ghost use Rattle.tokens.specs.Lexing.{comparator_scan, digits_scan, figure_scan, name_scan, scan, scan_by, sign_scan, single, variable_scan, wide_scan, wide_sign};
 ghost use Rattle.tokens.specs.Told.{scanned, seen};
 ghost use Rattle.tokens.specs.Tokens.{comparator, mark};
 
@@ -29,6 +29,7 @@ fn is_name_length(len: usize) -> bool
     (1..=LONGEST_NAME).contains(&len)
 }
 
+// The language's rule for a variable's name, whatever names run files allow.
 fn is_printable(b: u8) -> bool
     ensures { result ≡ is_printable b }
 {
@@ -49,6 +50,7 @@ fn connective(bytes: &[u8]) -> Option<ConnectiveSign>
 }
 
 impl<'a> Front<'a> {
+    // No one method with `cut_numeral`: it would take a closure for the token, and a clause on what that token means.
     fn name(self) -> Lexeme<'a>
         ensures { seen result ≡ scanned (name_scan self.entry.bytes.now) self.entry.at }
     {
@@ -59,14 +61,21 @@ impl<'a> Front<'a> {
         }
     }
 
-    fn numeral(self) -> Lexeme<'a>
-        ensures { seen result ≡ scanned (digits_scan self.entry.bytes.now) self.entry.at }
+    // The numeral of so many bytes.
+    fn cut_numeral(self, size: usize) -> Lexeme<'a>
+        requires { size ≤ length self.bytes.now }
+        ensures { seen result ≡ scanned (figure_scan size self.entry.bytes.now) self.entry.at }
     {
-        let size = run_len(self.bytes, |b| b.is_ascii_digit());
         Lexeme {
             token: Token::Numeral(&self.bytes[..size], self.at),
             size,
         }
+    }
+
+    fn numeral(self) -> Lexeme<'a>
+        ensures { seen result ≡ scanned (digits_scan self.entry.bytes.now) self.entry.at }
+    {
+        self.cut_numeral(run_len(self.bytes, |b| b.is_ascii_digit()))
     }
 
     // A sign and digits; a sign alone begins no token.
@@ -77,11 +86,7 @@ impl<'a> Front<'a> {
         if digits == 0 {
             return Lexeme::single(Token::Stray(self.at));
         }
-        let size = 1 + digits;
-        Lexeme {
-            token: Token::Numeral(&self.bytes[..size], self.at),
-            size,
-        }
+        self.cut_numeral(1 + digits)
     }
 
     // A name between braces.
@@ -130,6 +135,7 @@ impl<'a> Front<'a> {
         Lexeme::single(Token::Punctuation(punctuation, self.at))
     }
 
+    // A match on the class that the table of bytes tells, and no table of functions.
     fn lexeme_by(self, class: Class) -> Lexeme<'a>
         ensures { seen result ≡ scanned (scan_by class self.entry.bytes.now) self.entry.at }
     {

@@ -8,7 +8,7 @@ use super::words::{ConnectiveSign, PrefixSign, Sign, Word};
 use parts::{Binary, Statistic, Unary};
 use records::Numeral;
 
-// The names of measures.
+// The names of measures. A table and no match: a match on nine texts was tried, and its last arm stayed open.
 static MEASURES: [(&str, Word<'static>); 9] = [
     ("abs", Word::Unary(Unary::Abs)),
     ("sign", Word::Unary(Unary::Sign)),
@@ -63,6 +63,7 @@ fn sign_of(text: &[u8]) -> Sign
     }
 }
 
+// A numeral that was cut has a digit, so None does not come; 0 stands for it.
 fn word_figured(text: &[u8]) -> Word<'static>
     ensures { tok_of result ≡ figure text.now }
 {

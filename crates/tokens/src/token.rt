@@ -5,7 +5,8 @@ ghost use Rattle.tokens.specs.Told.{seen, spot_of};
 use super::words::{ConnectiveSign, Punctuation};
 use parts::Comparator;
 
-// Each holds the index of its first byte. Names, numerals and variables are parts of the caller's text.
+// Names, numerals and variables are parts of the caller's text.
+// Each holds the index of its first byte. In each case, and no struct round the cases: callers match a token whole.
 #[derive(Clone, Copy, PartialEq, Eq, Debug)]
 pub enum Token<'a> {
     // A longest run of letters.

@@ -1,5 +1,5 @@
 // Measures.
-ghost use Rattle.std.specs.Prelude.{◌≡◌, ◌<◌, ◌≤◌, Bool, OnOk};
+ghost use Rattle.std.specs.Prelude.{◌≡◌, ◌≤◌, Bool, OnOk};
 ghost use Rattle.grammar.specs.Meanings.{signed};
 ghost use Rattle.grammar.specs.Trees.{MeasureTree};
 ghost use Rattle.criteria.specs.States.{AtToken, Balanced, Does, Follows, view};
@@ -76,10 +76,9 @@ impl<'t> Reader<'t> {
 
     #[cycle(arguments_call_measure_one_argument_two_arguments_window_argument)]
     fn one_argument(&mut self, u: Unary, left: usize, context: Context) -> Result<Call, Breach>
-        requires { 0 < left }
         ensures { Does (arguments_way self.old.scope.now (Function.Unary u) left (is_inside context)) self.old result self.new }
     {
-        let argument = self.measure(left - 1, context)?;
+        let argument = self.measure(left, context)?;
         Ok(Call {
             part: Part::Unary(u),
             bound: u.bound(argument.bound),
@@ -88,12 +87,11 @@ impl<'t> Reader<'t> {
 
     #[cycle(arguments_call_measure_one_argument_two_arguments_window_argument)]
     fn two_arguments(&mut self, b: Binary, left: usize, context: Context) -> Result<Call, Breach>
-        requires { 0 < left }
         ensures { Does (arguments_way self.old.scope.now (Function.Binary b) left (is_inside context)) self.old result self.new }
     {
-        let first = self.measure(left - 1, context)?;
+        let first = self.measure(left, context)?;
         self.punctuation(Punctuation::Comma)?;
-        let second = self.measure(left - 1, context)?;
+        let second = self.measure(left, context)?;
         Ok(Call {
             part: Part::Binary(b, first.at),
             bound: b.bound(first.bound, second.bound),
@@ -102,19 +100,18 @@ impl<'t> Reader<'t> {
 
     #[cycle(arguments_call_measure_one_argument_two_arguments_window_argument)]
     fn window_argument(&mut self, s: Statistic, left: usize) -> Result<Call, Breach>
-        requires { 0 < left }
         ensures answer { (inside : Bool) → Follows (arguments_way self.old.scope.now (Function.Statistic s) left inside) (view self.old) result (view self.new) }
         ensures balance { OnOk result (Balanced self.old self.new) }
     {
         let window = self.window()?;
-        let argument = self.measure(left - 1, Context::Window)?;
+        let argument = self.measure(left, Context::Window)?;
         Ok(Call {
             part: Part::Over(s, window),
             bound: s.bound(argument.bound),
         })
     }
 
-    // The arguments of a function, behind their opening bracket, which took one of the nestings left.
+    // The arguments of a function, behind their opening bracket, inside which so many nestings are left.
     #[cycle(arguments_call_measure_one_argument_two_arguments_window_argument)]
     fn arguments(
         &mut self,
@@ -122,7 +119,6 @@ impl<'t> Reader<'t> {
         left: usize,
         context: Context,
     ) -> Result<Call, Breach>
-        requires { 0 < left }
         ensures { Does (arguments_way self.old.scope.now function left (is_inside context)) self.old result self.new }
     {
         match function {
@@ -142,13 +138,13 @@ impl<'t> Reader<'t> {
         self.bring()?;
         self.advance();
         self.opening(left)?;
-        let call = self.arguments(function, left, context)?;
+        let call = self.arguments(function, left - 1, context)?;
         let bound = self.ending(name, call.bound)?;
         let at = self.write(call.part);
         Ok(Operand { at, bound })
     }
 
-    // A measure, where so many nestings are left.
+    // A measure, where so many nestings are left. The nesting left is a parameter, since it falls at each call.
     #[cycle(arguments_call_measure_one_argument_two_arguments_window_argument)]
     pub(super) fn measure(&mut self, left: usize, context: Context) -> Result<Operand, Breach>
         ensures { Does (measure_way self.old.scope.now left (is_inside context)) self.old result self.new }

@@ -15,7 +15,7 @@ pub struct Operand {
     pub bound: u64,
 }
 
-// A measure that takes arguments.
+// A measure that takes arguments. A kind and no closure: the calls are mutual, with the nesting left falling at each.
 #[derive(Clone, Copy)]
 pub enum Function {
     Unary(Unary),

@@ -6,8 +6,8 @@ ghost use Rattle.criteria.specs.States.{AtToken, Balanced, Does, Follows, View, 
 ghost use Rattle.criteria.specs.Ways.{Ends, bracketed_way, change_comparison_way, columns_of, compared_way, comparison_way, index_way, lead_way, link_way, linked_way, links_way, next_lead_way, operand_way, prefix_sign_way, prefixed_way, tier_way};
 
 use super::super::fault::{Breach, Rule};
+use super::Reader;
 use super::operands::Context;
-use super::{MOST_PARTS, Reader};
 use parts::{Connective, Part, Prefix, Quantity};
 use tokens::{ConnectiveSign, PrefixSign, Punctuation, Sign, Word};
 
@@ -96,10 +96,10 @@ impl<'t> Reader<'t> {
         ensures answer { Follows (prefix_sign_way left) (view self.old) result (view self.new) }
         ensures count { self.new.count ≡ self.old.count }
     {
-        if left == 0 || self.brought >= MOST_PARTS {
+        if left == 0 {
             return Err(self.breach(Rule::Size));
         }
-        self.brought += 1;
+        self.bring()?;
         self.advance();
         Ok(())
     }
@@ -225,6 +225,6 @@ fn level_of(sign: ConnectiveSign) -> usize
         ConnectiveSign::Or => 2,
         ConnectiveSign::Implies => 3,
         ConnectiveSign::Iff => 4,
-        ConnectiveSign::Until => 5,
+        ConnectiveSign::Until => LOOSEST,
     }
 }

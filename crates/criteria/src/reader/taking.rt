@@ -48,13 +48,9 @@ impl<'t> Reader<'t> {
     pub(super) fn opening(&mut self, left: usize) -> Result<(), Breach>
         ensures { Does (opening_way left) self.old result self.new }
     {
-        if !self.is_at(Punctuation::Open) {
-            return Err(self.breach(Rule::Grammar));
-        }
-        if left == 0 {
+        if left == 0 && self.is_at(Punctuation::Open) {
             return Err(self.breach(Rule::Size));
         }
-        self.advance();
-        Ok(())
+        self.punctuation(Punctuation::Open)
     }
 }

@@ -7,7 +7,7 @@ use Rattle.criteria.specs.States.{Follows, view}
 use Rattle.criteria.specs.Ways.{arguments_way, call_way, is_inside, numeral_way, variable_way}
 use Rattle.criteria.specs.declared.reader.operands.Function.{Function}
 use Rattle.criteria.specs.declared.reader.operands.Function.TheVariants as function
-use Rattle.criteria.proofs.Measures.{call_read, ending_broken, no_measure, one_broken, one_read, opened, over_broken, over_read, read_by, refused_by, two_broken_comma, two_broken_first, two_broken_second, two_read}
+use Rattle.criteria.proofs.Measures.{call_broken, call_read, ending_broken, no_measure, one_broken, one_read, opened, over_broken, over_read, read_by, refused_by, two_broken_comma, two_broken_first, two_broken_second, two_read}
 use Rattle.criteria.proofs.Writing.{counted}
 use Rattle.criteria.proofs.reader.Reader.+arguments_call_measure_one_argument_two_arguments_window_argument.Goals as goal
 
@@ -18,6 +18,17 @@ arguments-returns-in-Statistic t c = record {
       (sym c.in-Statistic.is) (c.window_argument.ensures.answer (is_inside c.args.context));
   balance = c.window_argument.ensures.balance;
 }
+
+pub call-returns-in_err-call : goal.call-returns-in_err-call
+call-returns-in_err-call t c =
+    let exit = err_from_is_err_and c.from_residual-in_err-call.result c.from_residual-in_err-call.ensures.1 in
+    let after = view c.arguments.new.self in
+    rw (exit.1, exit.2) (record {
+      answer = call_broken c.args.function c.args.left (is_inside c.args.context) (view c.args.self.now) (view c.opening.new.self) after after c.in_err-call.field-0.0
+          (opened c.args.function c.args.left (is_inside c.args.context) (view c.args.self.now) (view c.bring.new.self) (view c.advance.new.self) (view c.opening.new.self) c.in_ok-bring.ensures.answer c.advance.ensures.after c.in_ok-opening.ensures.answer)
+          c.in_err-call.ensures.answer;
+      balance = tt;
+    })
 
 pub call-returns-in_err-bound : goal.call-returns-in_err-bound
 call-returns-in_err-bound t c =
@@ -100,7 +111,7 @@ pub one_argument-returns-in_err-argument : goal.one_argument-returns-in_err-argu
 one_argument-returns-in_err-argument t c =
     let exit = err_from_is_err_and c.from_residual.result c.from_residual.ensures.1 in
     let after = view c.measure.new.self in
-    rw (exit.1, exit.2) (record { answer = one_broken c.args.self.now.scope.now c.args.u c.args.left (is_inside c.args.context) (view c.args.self.now) after after _ c.requires c.in_err-argument.ensures.answer; balance = tt })
+    rw (exit.1, exit.2) (record { answer = one_broken c.args.self.now.scope.now c.args.u c.args.left (is_inside c.args.context) (view c.args.self.now) after after _ c.in_err-argument.ensures.answer; balance = tt })
 
 pub one_argument-returns : goal.one_argument-returns
 one_argument-returns t c =
@@ -108,7 +119,7 @@ one_argument-returns t c =
     record {
       answer =
           subst (λ (k : Option ℕ). Follows (arguments_way c.args.self.now.scope.now (function.Unary c.args.u) c.args.left (is_inside c.args.context)) (view c.args.self.now) (Ok (record { part = part.Unary c.args.u; bound = k })) (view c.measure.new.self)) (sym c.bound.ensures)
-          (one_read c.args.self.now.scope.now c.args.u c.args.left (is_inside c.args.context) (view c.args.self.now) (view c.measure.new.self) o c.requires c.in_ok-argument.ensures.answer);
+          (one_read c.args.self.now.scope.now c.args.u c.args.left (is_inside c.args.context) (view c.args.self.now) (view c.measure.new.self) o c.in_ok-argument.ensures.answer);
       balance = c.in_ok-argument.ensures.balance;
     }
 
@@ -116,14 +127,14 @@ pub two_arguments-returns-in_err-first : goal.two_arguments-returns-in_err-first
 two_arguments-returns-in_err-first t c =
     let exit = err_from_is_err_and c.from_residual.result c.from_residual.ensures.1 in
     let after = view c.measure.new.self in
-    rw (exit.1, exit.2) (record { answer = two_broken_first (view c.args.self.now) c.args.b c.args.left (is_inside c.args.context) c.requires after after c.in_err-first.field-0.0 c.in_err-first.ensures.answer; balance = tt })
+    rw (exit.1, exit.2) (record { answer = two_broken_first (view c.args.self.now) c.args.b c.args.left (is_inside c.args.context) after after c.in_err-first.field-0.0 c.in_err-first.ensures.answer; balance = tt })
 
 pub two_arguments-returns-in_err-punctuation : goal.two_arguments-returns-in_err-punctuation
 two_arguments-returns-in_err-punctuation t c =
     let exit = err_from_is_err_and c.from_residual-in_err-punctuation.result c.from_residual-in_err-punctuation.ensures.1 in
     let after = view c.punctuation.new.self in
     rw (exit.1, exit.2) (record {
-      answer = two_broken_comma (view c.args.self.now) c.args.b c.args.left (is_inside c.args.context) c.requires (view c.measure.new.self) after after c.in_ok-first.first c.in_err-punctuation.field-0.0 c.in_ok-first.ensures.answer c.in_err-punctuation.ensures.answer;
+      answer = two_broken_comma (view c.args.self.now) c.args.b c.args.left (is_inside c.args.context) (view c.measure.new.self) after after c.in_ok-first.first c.in_err-punctuation.field-0.0 c.in_ok-first.ensures.answer c.in_err-punctuation.ensures.answer;
       balance = tt;
     })
 
@@ -132,7 +143,7 @@ two_arguments-returns-in_err-second t c =
     let exit = err_from_is_err_and c.from_residual-in_err-second.result c.from_residual-in_err-second.ensures.1 in
     let after = view c.measure-2.new.self in
     rw (exit.1, exit.2) (record {
-      answer = two_broken_second (view c.args.self.now) c.args.b c.args.left (is_inside c.args.context) c.requires (view c.measure.new.self) (view c.punctuation.new.self) after after c.in_ok-first.first c.in_err-second.field-0.0 c.in_ok-first.ensures.answer c.in_ok-punctuation.ensures.answer c.in_err-second.ensures.answer;
+      answer = two_broken_second (view c.args.self.now) c.args.b c.args.left (is_inside c.args.context) (view c.measure.new.self) (view c.punctuation.new.self) after after c.in_ok-first.first c.in_err-second.field-0.0 c.in_ok-first.ensures.answer c.in_ok-punctuation.ensures.answer c.in_err-second.ensures.answer;
       balance = tt;
     })
 
@@ -142,7 +153,7 @@ two_arguments-returns t c =
     record {
       answer =
           subst (λ (k : Option ℕ). Follows (arguments_way c.args.self.now.scope.now (function.Binary c.args.b) c.args.left (is_inside c.args.context)) (view c.args.self.now) (Ok (record { part = part.Binary c.args.b first.at; bound = k })) (view c.measure-2.new.self)) (sym c.bound.ensures)
-          (two_read (view c.args.self.now) c.args.b c.args.left (is_inside c.args.context) c.requires (view c.measure.new.self) (view c.punctuation.new.self) (view c.measure-2.new.self) first c.in_ok-second.second c.in_ok-first.ensures.answer c.in_ok-punctuation.ensures.answer c.in_ok-second.ensures.answer);
+          (two_read (view c.args.self.now) c.args.b c.args.left (is_inside c.args.context) (view c.measure.new.self) (view c.punctuation.new.self) (view c.measure-2.new.self) first c.in_ok-second.second c.in_ok-first.ensures.answer c.in_ok-punctuation.ensures.answer c.in_ok-second.ensures.answer);
       balance = search rules;
     }
 
@@ -150,9 +161,9 @@ pub window_argument-returns-in_err-argument-clause-answer : goal.window_argument
 window_argument-returns-in_err-argument-clause-answer t c =
     let exit = err_from_is_err_and c.from_residual-in_err-argument.result c.from_residual-in_err-argument.ensures.1 in
     let after = view c.measure.new.self in
-    rw (exit.1, exit.2) (λ inside. over_broken (view c.args.self.now) c.args.s c.args.left inside c.requires (view c.window.new.self) after after c.in_ok-window.window c.in_err-argument.field-0.0 c.in_ok-window.ensures.answer c.in_err-argument.ensures.answer)
+    rw (exit.1, exit.2) (λ inside. over_broken (view c.args.self.now) c.args.s c.args.left inside (view c.window.new.self) after after c.in_ok-window.window c.in_err-argument.field-0.0 c.in_ok-window.ensures.answer c.in_err-argument.ensures.answer)
 
 pub window_argument-returns-clause-answer : goal.window_argument-returns-clause-answer
 window_argument-returns-clause-answer t c = λ inside.
     subst (λ (k : Option ℕ). Follows (arguments_way c.args.self.now.scope.now (function.Statistic c.args.s) c.args.left inside) (view c.args.self.now) (Ok (record { part = part.Over c.args.s c.in_ok-window.window; bound = k })) (view c.measure.new.self)) (sym c.bound.ensures)
-    (over_read (view c.args.self.now) c.args.s c.args.left inside c.requires (view c.window.new.self) (view c.measure.new.self) c.in_ok-window.window c.in_ok-argument.argument c.in_ok-window.ensures.answer c.in_ok-argument.ensures.answer)
+    (over_read (view c.args.self.now) c.args.s c.args.left inside (view c.window.new.self) (view c.measure.new.self) c.in_ok-window.window c.in_ok-argument.argument c.in_ok-window.ensures.answer c.in_ok-argument.ensures.answer)
