@@ -7,6 +7,7 @@ ghost use Rattle.changes.specs.Encoding.{change_largest, change_of, changes, enc
 use super::ChangeLayout;
 use crate::change::Change;
 use runs::Offer;
+use stores::fill;
 
 impl ChangeLayout {
     // The cell that tells that variable v has this value now, unless it had it before.
@@ -64,9 +65,6 @@ impl ChangeLayout {
         ensures last { take (length values.now) self.new.last ≡ values.now }
         ensures waypoints { self.new.waypoints ≡ self.old.waypoints }
     {
-        // By index: of what a loop over `iter_mut().zip(..)` wrote, a proof knows no element.
-        for (v, value) in values.iter().enumerate() {
-            self.last[v] = *value as i32;
-        }
+        fill(&mut self.last, values);
     }
 }
