@@ -44,12 +44,12 @@ impl Layout for RowLayout {
     #[tactic(auto, using(crate::proofs::RowStates::row_stay))]
     fn stay(&self, filled: Filled<'_>, i: usize) -> u64 {
         let row = i * (filled.head.shape.width + 1);
-        filled.cells[row].unsigned_abs() as u64
+        u64::from(filled.cells[row].unsigned_abs())
     }
 
     #[tactic(auto, using(crate::proofs::RowStates::row_value))]
     fn value(&self, filled: Filled<'_>, i: usize, v: usize) -> i64 {
         let row = i * (filled.head.shape.width + 1);
-        filled.cells[row + 1 + v] as i64
+        i64::from(filled.cells[row + 1 + v])
     }
 }

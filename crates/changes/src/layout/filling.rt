@@ -16,7 +16,7 @@ impl ChangeLayout {
         requires value { unsigned_abs value ≤ change_largest }
         ensures { result ≡ change_of v value (slice_index_or self.now.last v (pos 0)) }
     {
-        if value == self.last[v] as i64 {
+        if value == i64::from(self.last[v]) {
             return None;
         }
         let change = Change {
@@ -34,7 +34,7 @@ impl ChangeLayout {
         values
             .iter()
             .zip(&self.last)
-            .filter(|(new, old)| **new != **old as i64)
+            .filter(|(new, old)| **new != i64::from(**old))
             .count()
     }
 

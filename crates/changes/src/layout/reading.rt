@@ -6,6 +6,7 @@ ghost use Rattle.changes.specs.Kept.{Kept};
 
 use super::ChangeLayout;
 use crate::change::Change;
+use crate::waypoints::STRIDE;
 use stores::Filled;
 
 // The changes of the state at a cell.
@@ -38,7 +39,7 @@ impl ChangeLayout {
         ensures there { result < length filled.entry.cells.now }
     {
         let mut at = self.waypoints.preceding(i).place;
-        for _state in 64 * (i / 64)..i {
+        for _state in STRIDE * (i / STRIDE)..i {
             at += 2 + changes_at(filled.cells, at).len();
         }
         at
@@ -55,7 +56,7 @@ impl ChangeLayout {
         let waypoint = self.waypoints.preceding(i);
         let mut at = waypoint.place;
         let mut value = waypoint.values[v];
-        for _state in 64 * (i / 64)..i + 1 {
+        for _state in STRIDE * (i / STRIDE)..i + 1 {
             let changes = changes_at(filled.cells, at);
             value = value_past(changes, v, value);
             at += 2 + changes.len();
