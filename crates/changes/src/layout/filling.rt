@@ -48,7 +48,7 @@ impl ChangeLayout {
     {
         free[0] = offer.stay as i32;
         free[1] = self.changed(offer.values) as i32;
-        // Counted by hand: a `filter_map` would need a contract on its closure, and be longer.
+        // Tried as a loop over `enumerate().filter_map(..).enumerate()`: what `change` requires at each value, and that the next place is free, stayed open.
         let mut at = 2;
         for (v, value) in offer.values.iter().enumerate() {
             if let Some(cell) = self.change(v, *value) {
