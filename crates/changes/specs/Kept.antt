@@ -4,6 +4,7 @@ use Rattle.runs.specs.declared.shape.Shape.{Shape}
 use Rattle.changes.specs.Encoding.{place_of, values_before}
 use Rattle.changes.specs.declared.waypoints.Waypoint.{Waypoint}
 
+-- the waypoint for state 64 k
 abbrev pub waypoint_at : List Waypoint → ℕ → Waypoint
 waypoint_at waypoints k = slice_index_or waypoints k (record { place = 0; values = [] })
 

@@ -6,7 +6,7 @@ ghost use Rattle.changes.specs.Encoding.{change_largest};
 ghost use Rattle.changes.specs.Kept.{Kept};
 
 use super::waypoints::{Waypoint, Waypoints};
-use runs::Offer;
+use runs::{Offer, Shape};
 use stores::{Filled, Layout, Store};
 
 // How a state is written.
@@ -20,7 +20,7 @@ pub type Changes<'a> = Store<'a, ChangeLayout>;
 #[derive(Drop)]
 pub struct ChangeLayout {
     // The values of the last state, of which the first ones are the variables'. There is no heap, so the array is as wide as a run can be.
-    last: [i32; 16],
+    last: [i32; Shape::WIDEST],
     waypoints: Waypoints,
 }
 
@@ -42,7 +42,7 @@ impl Layout for ChangeLayout {
     #[tactic(auto, using(crate::proofs::Places::values_start))]
     fn start() -> Self {
         ChangeLayout {
-            last: [0; 16],
+            last: [0; Shape::WIDEST],
             waypoints: Waypoints::new(),
         }
     }
@@ -64,11 +64,11 @@ impl Layout for ChangeLayout {
     #[tactic(auto, using(crate::proofs::ToldStates::told_stay))]
     fn stay(&self, filled: Filled<'_>, i: usize) -> u64 {
         let at = self.place(filled, i);
-        filled.cells[at].unsigned_abs() as u64
+        u64::from(filled.cells[at].unsigned_abs())
     }
 
     #[tactic(auto, using(crate::proofs::ToldStates::told_value))]
     fn value(&self, filled: Filled<'_>, i: usize, v: usize) -> i64 {
-        self.value_in(filled, i, v) as i64
+        i64::from(self.value_in(filled, i, v))
     }
 }

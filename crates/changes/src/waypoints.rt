@@ -2,22 +2,28 @@
 ghost use Rattle.std.specs.Prelude.{◌≡◌, ℕ, ◌*◌, ◌/◌, ◌<◌, if◌then◌else◌, nat_eq};
 ghost use Rattle.changes.specs.Kept.{waypoint_at};
 
+use runs::Shape;
+
+// How many states lie between two waypoints, and how many waypoints there are, since a run has at most 64 times 64 states.
+pub(crate) const STRIDE: usize = 64;
+
 #[derive(Clone, Copy)]
 pub(crate) struct Waypoint {
     pub(crate) place: usize,
-    pub(crate) values: [i32; 16],
+    pub(crate) values: [i32; Shape::WIDEST],
 }
 
+// Fixed memory beside the lent cells, since there is no heap.
 #[derive(Drop)]
-pub(crate) struct Waypoints([Waypoint; 64]);
+pub(crate) struct Waypoints([Waypoint; STRIDE]);
 
 impl Waypoints {
     pub(crate) fn new() -> Waypoints {
         let start = Waypoint {
             place: 0,
-            values: [0; 16],
+            values: [0; Shape::WIDEST],
         };
-        Waypoints([start; 64])
+        Waypoints([start; STRIDE])
     }
 
     // Notes where a state begins and the values before it, if it is a 64th one.
@@ -25,8 +31,8 @@ impl Waypoints {
         requires { state < 4096 }
         ensures { (k : ℕ) → k < 64 → waypoint_at self.new.0 k ≡ (if nat_eq (64 * k) state then waypoint else waypoint_at self.old.0 k) }
     {
-        if state % 64 == 0 {
-            self.0[state / 64] = waypoint;
+        if state % STRIDE == 0 {
+            self.0[state / STRIDE] = waypoint;
         }
     }
 
@@ -35,6 +41,6 @@ impl Waypoints {
         requires { state < 4096 }
         ensures { result ≡ waypoint_at self.now.0 (state / 64) }
     {
-        self.0[state / 64]
+        self.0[state / STRIDE]
     }
 }

@@ -1,4 +1,5 @@
 // A shape, and what is told of a run.
+// Some of it stands in the tests of runs too: the tests of changes are a crate of their own, so that a change in one proves little again.
 use runs::{Offer, Recorder, Shape};
 
 pub const PAIRS: Shape = Shape {

@@ -1,2 +1,1 @@
 pub mod RowStates
-pub mod UsedRows

@@ -4,7 +4,7 @@ ghost use Rattle.std.proofs.Props.{props};
 ghost use Rattle.rows.specs.Rows.{row_coding, row_largest};
 
 use runs::Offer;
-use stores::{Filled, Layout, Store};
+use stores::{Filled, Layout, Store, fill};
 
 // A recorder that keeps each state in a row.
 pub type Rows<'a> = Store<'a, RowLayout>;
@@ -38,21 +38,18 @@ impl Layout for RowLayout {
 
     fn keep(&mut self, _filled: Filled<'_>, free: &mut [i32], offer: Offer<'_>) {
         free[0] = offer.stay as i32;
-        // By index: of what a loop over `iter_mut().zip(..)` wrote, a proof knows no element.
-        for (v, value) in offer.values.iter().enumerate() {
-            free[1 + v] = *value as i32;
-        }
+        fill(&mut free[1..], offer.values);
     }
 
     #[tactic(auto, using(crate::proofs::RowStates::row_stay))]
     fn stay(&self, filled: Filled<'_>, i: usize) -> u64 {
         let row = i * (filled.head.shape.width + 1);
-        filled.cells[row].unsigned_abs() as u64
+        u64::from(filled.cells[row].unsigned_abs())
     }
 
     #[tactic(auto, using(crate::proofs::RowStates::row_value))]
     fn value(&self, filled: Filled<'_>, i: usize, v: usize) -> i64 {
         let row = i * (filled.head.shape.width + 1);
-        filled.cells[row + 1 + v] as i64
+        i64::from(filled.cells[row + 1 + v])
     }
 }

@@ -9,6 +9,7 @@ use super::shape::Shape;
 
 impl Shape {
     // Why every run of this shape refuses a state, if it does.
+    // An Option and no Result: whether a state is refused is a question, which `need` asks too.
     pub fn unlawful(self, largest: i64, offer: Offer<'_>) -> Option<Refusal>
         ensures { result ≡ unlawful self (unsigned_abs largest) (told offer.entry) }
     {

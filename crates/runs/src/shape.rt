@@ -18,6 +18,9 @@ impl Shape {
 
     pub const LONGEST: u64 = 100_000;
 
+    // The most states of any run, whatever its shape.
+    pub const MOST_STATES: usize = 4_096;
+
     // Tells beforehand whether a run can have this shape.
     pub fn check(self) -> Result<(), Refusal>
         ensures { result ≡ answer (shape_refusal self) }
@@ -50,6 +53,7 @@ pub enum Mark {
 
 impl Mark {
     // Do feed and close refuse?
+    // Not `endures`, though both tell closed from open: they are two questions, which another mark may answer apart.
     pub fn ended(self) -> bool
         ensures { result ≡ ended self }
     {

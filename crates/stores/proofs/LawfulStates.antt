@@ -2,7 +2,7 @@
 use Rattle.std.proofs.Common.{◌≡◌, ℕ, zero, suc, ◌<◌, ◌≤◌, true, eqb, leb, List, [], ◌∷◌, ◌++◌, length, get_or, ℤ, pos, negsuc, nat_abs, None, refl, arith}
 use Rattle.std.specs.Int.{is_in_range}
 use Rattle.std.proofs.ByRecursion.{All-get_or}
-use Rattle.std.proofs.lemmas.Bool.{and_from, and_parts, cases_Bool, eq-eqb, eqb-true, leb-true}
+use Rattle.std.proofs.lemmas.Bool.{and_from, and_parts, cases_Bool, eq-eqb, eqb-true, le-leb, leb-true}
 use Rattle.std.proofs.lemmas.Bool.Decides.{nat_tests}
 use Rattle.std.proofs.lemmas.List.Folds.{list_all-append}
 use Rattle.std.proofs.lemmas.Option.{slice_get_past}
@@ -22,6 +22,14 @@ stay_positive longest (negsuc n) e = cc
 
 pub magnitude_within : (largest : ℕ) (values : List ℤ) (v : ℕ) → all_within largest values ≡ true → v < length values → nat_abs (get_or values v (pos 0)) ≤ largest
 magnitude_within largest values v within there = All-get_or (λ z. nat_abs z ≤ largest) values v (pos 0) there (magnitudes_lawful largest values within)
+
+-- values of a smaller magnitude
+pub within_more : (small large : ℕ) (values : List ℤ) → small ≤ large → all_within small values ≡ true → all_within large values ≡ true
+within_more small large [] less within = refl
+within_more small large (z ∷ zs) less within =
+    let p = and_parts (leb (nat_abs z) small) (all_within small zs) within in
+    let one : nat_abs z ≤ large = omega (arith, less, leb-true (nat_abs z) small p.0) in
+    and_from (leb (nat_abs z) large) (all_within large zs) (le-leb (nat_abs z) large one) (within_more small large zs less p.1)
 
 module _ (shape : Shape) (largest : ℕ) (o : Offered) (lawful : unlawful shape largest o ≡ None) where
   pub lawful_width : length o.values ≡ shape.width

@@ -1,8 +1,8 @@
 -- How cells are written one after the other. Assumes nothing.
-use Rattle.std.proofs.Common.{◌≡◌, ℕ, ◌+◌, ◌<◌, ◌≤◌, List, [], ◌∷◌, ◌++◌, length, get_or, take, drop, set, ℤ, pos, sym, refl, ap, ◌∙◌, arith}
+use Rattle.std.proofs.Common.{◌≡◌, ℕ, ◌+◌, ◌<◌, List, [], ◌∷◌, ◌++◌, length, get_or, take, drop, set, ℤ, pos, sym, refl, ap, ◌∙◌, arith}
 use lib.Seq.{paste}
 use Rattle.std.proofs.Math.Seq.{set-append_seam}
-use Rattle.std.proofs.lemmas.List.{append_assoc, drop_at, drop-drop, drop_more, drop-set-lt, length-append, length_push, length-take-le, take_all, take_at, take_more}
+use Rattle.std.proofs.lemmas.List.{append_assoc, drop_at, drop-drop, drop_more, length-append, length_push, take_all, take_at}
 use Rattle.stores.specs.Filled.{over}
 
 -- one cell more
@@ -13,17 +13,6 @@ over_set filled cells i z e there =
     let tail = drop (n + 1) cells in
     rw (e, drop_more cells n (pos 0) inside, length_push filled z) (set-append_seam filled (get_or cells n (pos 0)) tail z ∙ sym (append_assoc filled (z ∷ []) tail))
 
--- one value more, behind some cells
-pub over_next : (front values cells now : List ℤ) (v i : ℕ) (z : ℤ) → now ≡ over (front ++ take v values) cells → v < length values → i ≡ length front + v → i < length cells → z ≡ get_or values v (pos 0) → set now i z ≡ over (front ++ take (v + 1) values) cells
-over_next front values cells now v i z before more at there held =
-    let here : i ≡ length (front ++ take v values) = at ∙ sym (length-append front (take v values) ∙ ap (λ n. length front + n) (length-take-le v values (omega arith))) in
-    rw before
-    (over_set (front ++ take v values) cells i z here there
-    ∙ ap (λ cs. over cs cells) (append_assoc front (take v values) (z ∷ []) ∙ ap (λ cs. front ++ cs) (rw held (sym (take_more values v (pos 0) more)))))
-
-pub over_all : (front values cells now : List ℤ) (v : ℕ) → now ≡ over (front ++ take v values) cells → length values ≤ v → now ≡ over (front ++ values) cells
-over_all front values cells now v before all = before ∙ ap (λ vs. over (front ++ vs) cells) (take_all v values all)
-
 -- the cells of one state more, written behind those of the states before
 pub over_more : (filled more cells : List ℤ) (at k : ℕ) → at ≡ length filled → k ≡ length more → paste (over filled cells) at more k ≡ over (filled ++ more) cells
 over_more filled more cells at k e f =
@@ -33,7 +22,3 @@ over_more filled more cells at k e f =
     let whole : take m more ≡ more = take_all m more (omega arith) in
     let rest : drop (n + m) (filled ++ drop n cells) ≡ drop (n + m) cells = sym (drop-drop m n (filled ++ drop n cells)) ∙ ap (drop m) (drop_at filled (drop n cells) n refl) ∙ drop-drop m n cells in
     rw (e, f, first, whole, rest, length-append filled more)
-
--- cells that are filled again
-pub over_filled : (filled cells : List ℤ) (i : ℕ) (z : ℤ) → i < length filled → over filled (set cells i z) ≡ over filled cells
-over_filled filled cells i z there = rw drop-set-lt

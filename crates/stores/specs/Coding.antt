@@ -5,6 +5,7 @@ use Rattle.runs.specs.Offers.{Offered}
 use Rattle.runs.specs.Runs.{State}
 use Rattle.runs.specs.declared.shape.Shape.{Shape}
 
+-- how states lie in cells, with what has to be true of that
 pub record Coding : Type 0 where
   -- the largest magnitude of a value
   pub largest : ℕ
@@ -15,9 +16,13 @@ pub record Coding : Type 0 where
   pub needs : Shape → List State → Offered → ℕ
   -- the first so many states that cells tell, read back from them
   pub states : Shape → ℕ → List ℤ → List State
-  -- no state fills a cell; a lawful one more fills those added behind the others; these are as many as it needs, one at least; and as many states are told as are asked for
+  -- no state fills a cell
   pub none : (shape : Shape) → cells shape [] ≡ []
+  -- a lawful state more fills the cells added, behind those of the others
   pub more : (shape : Shape) (ss : List State) (o : Offered) → unlawful shape largest o ≡ None → cells shape (ss ++ (state_of o ∷ [])) ≡ cells shape ss ++ added shape ss o
+  -- the cells added are as many as it needs
   pub fits : (shape : Shape) (ss : List State) (o : Offered) → unlawful shape largest o ≡ None → length (added shape ss o) ≡ needs shape ss o
+  -- a state needs one cell at least
   pub some : (shape : Shape) (ss : List State) (o : Offered) → 1 ≤ needs shape ss o
+  -- as many states are told as are asked for
   pub counted : (shape : Shape) (n : ℕ) (cells : List ℤ) → length (states shape n cells) ≡ n

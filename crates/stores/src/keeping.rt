@@ -9,8 +9,6 @@ ghost use Rattle.stores.specs.Cells.{free_of, head_meaning};
 use super::head::Head;
 use runs::{Mark, Offer, Refusal, Shape};
 
-const MOST_STATES: usize = 4096;
-
 impl Head {
     // An open run without states.
     pub fn start(shape: Shape) -> Head
@@ -30,7 +28,7 @@ impl Head {
     pub fn free(self, cells: usize) -> usize
         ensures { result ≡ free_of self cells }
     {
-        if self.count >= MOST_STATES {
+        if self.count >= Shape::MOST_STATES {
             0
         } else {
             cells.saturating_sub(self.used)

@@ -29,9 +29,10 @@ pub trait Layout: Drop {
     // That what a layout keeps beside the cells of so many states is true of them.
     ghost kept: { Self → Shape → ℕ → List ℤ → Type 0 };
 
+    // That it is a proposition, as each field of an invariant has to be.
     ghost fact: { (x : Self) (shape : Shape) (n : ℕ) (cells : List ℤ) → IsProp (kept x shape n cells) };
 
-    // `LARGEST`, which a contract can't name where the recorder's type has a lifetime.
+    // `LARGEST` for the contracts of stores, whose type has a lifetime.
     fn largest_magnitude() -> i64
         ensures { result ≡ pos coding.largest };
 

@@ -5,11 +5,14 @@
 mod head;
 // What a head answers and refuses.
 mod keeping;
+// Cells that take values.
+mod cells;
 // How states lie in cells.
 mod layout;
 // The recorder, for every layout.
 mod store;
 
+pub use cells::fill;
 pub use head::Head;
 pub use layout::{Filled, Layout};
 pub use store::Store;

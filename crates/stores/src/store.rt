@@ -9,7 +9,7 @@ use super::layout::Layout;
 // How stores start and are filled.
 mod filling;
 // Stores as recorders.
-pub mod recorder;
+mod recorder;
 // Lists of calls in stores.
 mod recording;
 

@@ -6,8 +6,6 @@ ghost use Rattle.views.specs.Views.{view_sound, viewed};
 
 use runs::{Mark, Offer, Recorder, Refusal, Shape};
 
-const MOST_PASSED: usize = 4096;
-
 #[derive(Drop)]
 pub struct Late<R> {
     below: R,
@@ -22,7 +20,7 @@ impl<R: Recorder> Late<R> {
     {
         Late {
             below,
-            passed: k.min(MOST_PASSED),
+            passed: k.min(Shape::MOST_STATES),
         }
     }
 

@@ -7,6 +7,7 @@ ghost use Rattle.changes.specs.Encoding.{change_largest, change_of, changes, enc
 use super::ChangeLayout;
 use crate::change::Change;
 use runs::Offer;
+use stores::fill;
 
 impl ChangeLayout {
     // The cell that tells that variable v has this value now, unless it had it before.
@@ -15,7 +16,7 @@ impl ChangeLayout {
         requires value { unsigned_abs value ≤ change_largest }
         ensures { result ≡ change_of v value (slice_index_or self.now.last v (pos 0)) }
     {
-        if value == self.last[v] as i64 {
+        if value == i64::from(self.last[v]) {
             return None;
         }
         let change = Change {
@@ -33,7 +34,7 @@ impl ChangeLayout {
         values
             .iter()
             .zip(&self.last)
-            .filter(|(new, old)| **new != **old as i64)
+            .filter(|(new, old)| **new != i64::from(**old))
             .count()
     }
 
@@ -47,7 +48,7 @@ impl ChangeLayout {
     {
         free[0] = offer.stay as i32;
         free[1] = self.changed(offer.values) as i32;
-        // Counted by hand: a `filter_map` would need a contract on its closure, and be longer.
+        // Tried as a loop over `enumerate().filter_map(..).enumerate()`: what `change` requires at each value, and that the next place is free, stayed open.
         let mut at = 2;
         for (v, value) in offer.values.iter().enumerate() {
             if let Some(cell) = self.change(v, *value) {
@@ -64,9 +65,6 @@ impl ChangeLayout {
         ensures last { take (length values.now) self.new.last ≡ values.now }
         ensures waypoints { self.new.waypoints ≡ self.old.waypoints }
     {
-        // By index: of what a loop over `iter_mut().zip(..)` wrote, a proof knows no element.
-        for (v, value) in values.iter().enumerate() {
-            self.last[v] = *value as i32;
-        }
+        fill(&mut self.last, values);
     }
 }

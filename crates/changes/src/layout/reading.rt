@@ -1,11 +1,12 @@
 // How a state is found again: by walking from the waypoint before it, over at most 64 states.
-// The walks are loops and no folds: a fold's closure would have to require that the state lies in the cells.
+// The walks are loops: tried as folds, what the closure requires at each state and the result stayed open. They are two, since a stay is found without the value of a change.
 ghost use Rattle.std.specs.Prelude.{◌≡◌, ◌+◌, ◌<◌, ◌≤◌, length};
 ghost use Rattle.changes.specs.Encoding.{changed_at, changed_to, changes_at, place_of, value_before};
 ghost use Rattle.changes.specs.Kept.{Kept};
 
 use super::ChangeLayout;
 use crate::change::Change;
+use crate::waypoints::STRIDE;
 use stores::Filled;
 
 // The changes of the state at a cell.
@@ -38,7 +39,7 @@ impl ChangeLayout {
         ensures there { result < length filled.entry.cells.now }
     {
         let mut at = self.waypoints.preceding(i).place;
-        for _state in 64 * (i / 64)..i {
+        for _state in STRIDE * (i / STRIDE)..i {
             at += 2 + changes_at(filled.cells, at).len();
         }
         at
@@ -55,7 +56,7 @@ impl ChangeLayout {
         let waypoint = self.waypoints.preceding(i);
         let mut at = waypoint.place;
         let mut value = waypoint.values[v];
-        for _state in 64 * (i / 64)..i + 1 {
+        for _state in STRIDE * (i / STRIDE)..i + 1 {
             let changes = changes_at(filled.cells, at);
             value = value_past(changes, v, value);
             at += 2 + changes.len();

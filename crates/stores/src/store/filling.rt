@@ -12,6 +12,7 @@ use runs::{Offer, Shape};
 
 impl<'a, L: Layout> Store<'a, L> {
     // An open run without states, whose shape is the lawful one nearest to `shape`. No cell changes.
+    // `ghost_name` tells which cells are lent: by it, here and where the store is fed, a caller finds its own cells again.
     pub fn start(cells: &'a mut [i32], shape: Shape) -> Store<'a, L>
         ensures meaning { meaning_of result ≡ begun shape }
         ensures free { free_in result ≡ length cells.old }
