@@ -42,24 +42,16 @@ pub nth_front : {X : Type 0} (xs ys : List X) (i : ℕ) (x : X) → slice_get xs
 nth_front xs ys i x e = grind (arith, common_steps, slice_get_within xs i x e, get_or_from_slice_get xs i x x e, slice_get-get_or (xs ++ ys) i x)
 
 mapped_some : {X Y : Type 0} {f : X → Y} (o : Option X) {y : Y} → option_map f o ≡ Some y → (x : X) × (o ≡ Some x) × (y ≡ f x)
-mapped_some None e = absurd (cc)
-mapped_some (Some x) e = (x, refl, cc)
+mapped_some o e = grind arith
 
 as_measure_some : (o : Option Node) {m : Measure} → as_measure o ≡ Some m → o ≡ Some (measure m)
-as_measure_some None e = cc
-as_measure_some (Some (measure m)) e = cc
-as_measure_some (Some (property p)) e = cc
+as_measure_some o e = grind arith
 
 pub as_property_some : (o : Option Node) {p : Property} → as_property o ≡ Some p → o ≡ Some (property p)
-as_property_some None e = cc
-as_property_some (Some (measure m)) e = cc
-as_property_some (Some (property p)) e = cc
+as_property_some o e = grind arith
 
 both_some : {X Y : Type 0} (t : Bool) (a : Option X) (b : Option Y) {o : X × Y} → cond t (option_zip a b) None ≡ Some o → (t ≡ true) × (a ≡ Some o.0) × (b ≡ Some o.1)
-both_some false a b e = (cc, cc, cc)
-both_some true None b e = (cc, cc, cc)
-both_some true (Some x) None e = (cc, cc, cc)
-both_some true (Some x) (Some y) e = (cc, cc, cc)
+both_some t a b e = grind arith
 
 -- a node behind those of the parts before it
 module _ (ns more : List Node) (x : Node) where
@@ -112,11 +104,7 @@ module _ (ns more : List Node) (x : Node) where
 
 -- the first of some parts has a node, and the other parts have the nodes behind it
 pub first_node : (ns : List Node) (p : Part) (ps : List Part) (all : List Node) → nodes_behind ns (p ∷ ps) ≡ Some all → (x : Node) × (node ns p ≡ Some x) × (nodes_behind (ns ++ (x ∷ [])) ps ≡ Some all)
-first_node ns p ps all e = go (node ns p) refl e
-  where
-    go : (o : Option Node) → node ns p ≡ o → elim o [ None ↦ None | Some x ↦ nodes_behind (ns ++ (x ∷ [])) ps ] ≡ Some all → (x : Node) × (node ns p ≡ Some x) × (nodes_behind (ns ++ (x ∷ [])) ps ≡ Some all)
-    go None h e = absurd (grind arith)
-    go (Some x) h e = (x, h, e)
+first_node ns p ps all e = grind arith
 
 -- the nodes before stay, and each part brings one
 pub nodes_more : (ps : List Part) (ns all : List Node) → nodes_behind ns ps ≡ Some all → (more : List Node) × (all ≡ ns ++ more) × (length more ≡ length ps)

@@ -91,21 +91,9 @@ ends_at ps ns are (suc upto) i x h at =
     let same : e.0 ≡ x = cc in
     rw (← same) e.2
 
-if_some : {X : Type 0} (t : Bool) (o : Option X) {x : X} → cond t o None ≡ Some x → (t ≡ true) × (o ≡ Some x)
-if_some t o e = grind arith
-
-flattened_some : {X Y : Type 0} {f : X → Option Y} (o : Option X) {y : Y} → option_flatten (option_map f o) ≡ Some y → (x : X) × (o ≡ Some x) × (f x ≡ Some y)
-flattened_some None e = absurd (cc)
-flattened_some (Some x) e = (x, refl, e)
-
 -- the last node of some parts that are a tree is that tree, and all the parts belong to it
 pub root_node : (ps : List Part) (p : Property) → tree_of ps ≡ Some p → (ns : List Node) × (nodes ps ≡ Some ns) × (last_node ns ≡ Some (property p)) × (property_size p ≡ length ns)
-root_node ps p e =
-    let r = flattened_some {f = root_of} (nodes ps) e in
-    let ns = r.0 in
-    let h = if_some (eqb (size_of (last_node ns)) (length ns)) (as_property (last_node ns)) r.2 in
-    let last = as_property_some (last_node ns) h.1 in
-    (ns, r.1, last, sym (ap size_of last) ∙ eqb-true (size_of (last_node ns)) (length ns) h.0)
+root_node ps p e = grind arith
 
 pub parts_of_tree_of : (ps : List Part) (p : Property) → tree_of ps ≡ Some p → ps ≡ parts_of p
 parts_of_tree_of ps p e =
