@@ -1,6 +1,6 @@
 -- What the node at each index is, told from its part and the nodes of its operands, which stand before it. Assumes nothing.
-use Rattle.std.proofs.Common.{◌≡◌, ℕ, zero, suc, ◌+◌, ◌-◌, ◌<◌, Bool, true, false, cond, List, [], ◌∷◌, ◌++◌, length, Some, None, Option, sym, refl, ap, ◌∙◌, append_assoc, append-nil, add-zero, zero-add, arith}
-use Rattle.std.specs.Option.{option_map, option_zip}
+use Rattle.std.proofs.Common.{◌≡◌, ℕ, zero, suc, ◌+◌, ◌-◌, ◌<◌, true, List, [], ◌∷◌, ◌++◌, length, Some, Option, sym, refl, ap, ◌∙◌, append_assoc, append-nil, add-zero, zero-add, arith}
+use Rattle.std.specs.Option.{option_map}
 use Rattle.std.specs.List.{slice_get}
 use Rattle.std.proofs.lemmas.Grind.{common_steps}
 use Rattle.std.proofs.lemmas.List.{length_push}
@@ -44,15 +44,6 @@ nth_front xs ys i x e = grind (arith, common_steps, slice_get_within xs i x e, g
 mapped_some : {X Y : Type 0} {f : X → Y} (o : Option X) {y : Y} → option_map f o ≡ Some y → (x : X) × (o ≡ Some x) × (y ≡ f x)
 mapped_some o e = grind arith
 
-as_measure_some : (o : Option Node) {m : Measure} → as_measure o ≡ Some m → o ≡ Some (measure m)
-as_measure_some o e = grind arith
-
-pub as_property_some : (o : Option Node) {p : Property} → as_property o ≡ Some p → o ≡ Some (property p)
-as_property_some o e = grind arith
-
-both_some : {X Y : Type 0} (t : Bool) (a : Option X) (b : Option Y) {o : X × Y} → cond t (option_zip a b) None ≡ Some o → (t ≡ true) × (a ≡ Some o.0) × (b ≡ Some o.1)
-both_some t a b e = grind arith
-
 -- a node behind those of the parts before it
 module _ (ns more : List Node) (x : Node) where
   one_here : (y : Node) → last_node ns ≡ Some y → OneOperand (ns ++ (x ∷ more)) (length ns) y x
@@ -66,38 +57,34 @@ module _ (ns more : List Node) (x : Node) where
         below = slice_get_within ns left y e;
         operand = nth_front ns (x ∷ more) left y e;
         last_operand = nth_front ns (x ∷ more) (length ns - 1) z f;
-        adjoin = sym (ap (λ o. left + suc (size_of o)) f) ∙ eqb-true (left + suc (size_of (last_node ns))) (length ns) t;
+        adjoin = grind (arith, eqb-true (left + suc (size_of (last_node ns))) (length ns) t);
         here = nth_at ns more x;
       }
 
   measures_here : (left : ℕ) (o : Measure × Measure) → measures_at ns left ≡ Some o → TwoOperands (ns ++ (x ∷ more)) (length ns) left (measure o.0) (measure o.1) x
-  measures_here left o e =
-      let b = both_some (adjoins ns left) (as_measure (slice_get ns left)) (as_measure (last_node ns)) e in
-      two_here left (measure o.0) (measure o.1) b.0 (as_measure_some (slice_get ns left) b.1) (as_measure_some (last_node ns) b.2)
+  measures_here left o e = two_here left (measure o.0) (measure o.1) (grind arith) (grind arith) (grind arith)
 
   properties_here : (left : ℕ) (o : Property × Property) → properties_at ns left ≡ Some o → TwoOperands (ns ++ (x ∷ more)) (length ns) left (property o.0) (property o.1) x
-  properties_here left o e =
-      let b = both_some (adjoins ns left) (as_property (slice_get ns left)) (as_property (last_node ns)) e in
-      two_here left (property o.0) (property o.1) b.0 (as_property_some (slice_get ns left) b.1) (as_property_some (last_node ns) b.2)
+  properties_here left o e = two_here left (property o.0) (property o.1) (grind arith) (grind arith) (grind arith)
 
   meant_here : (part : Part) → node ns part ≡ Some x → Meant (ns ++ (x ∷ more)) (length ns) part
   meant_here (Numeral n) e = nth_at ns more x ∙ sym e
   meant_here (Variable v) e = nth_at ns more x ∙ sym e
   meant_here (Unary u) e =
       let o = mapped_some (as_measure (last_node ns)) e in
-      (o.0, rw (← o.2) (one_here (measure o.0) (as_measure_some (last_node ns) o.1)))
+      (o.0, rw (← o.2) (one_here (measure o.0) (grind arith)))
   meant_here (Binary b left) e =
       let o = mapped_some (measures_at ns left) e in
       (o.0.0, o.0.1, rw (← o.2) (measures_here left o.0 o.1))
   meant_here (Over s w) e =
       let o = mapped_some (as_measure (last_node ns)) e in
-      (o.0, rw (← o.2) (one_here (measure o.0) (as_measure_some (last_node ns) o.1)))
+      (o.0, rw (← o.2) (one_here (measure o.0) (grind arith)))
   meant_here (Compare c q left) e =
       let o = mapped_some (measures_at ns left) e in
       (o.0.0, o.0.1, rw (← o.2) (measures_here left o.0 o.1))
   meant_here (Prefix y) e =
       let o = mapped_some (as_property (last_node ns)) e in
-      (o.0, rw (← o.2) (one_here (property o.0) (as_property_some (last_node ns) o.1)))
+      (o.0, rw (← o.2) (one_here (property o.0) (grind arith)))
   meant_here (Connective c left) e =
       let o = mapped_some (properties_at ns left) e in
       (o.0.0, o.0.1, rw (← o.2) (properties_here left o.0 o.1))

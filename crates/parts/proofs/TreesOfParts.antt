@@ -1,15 +1,13 @@
 -- Some parts are a tree only if they are its parts, in order. Assumes nothing.
-use Rattle.std.proofs.Common.{◌≡◌, ℕ, zero, suc, ◌+◌, ◌-◌, ◌<◌, Bool, true, cond, eqb, List, [], ◌∷◌, ◌++◌, length, take, Some, None, Option, sym, refl, ap, ◌∙◌, append_assoc, arith}
-use Rattle.std.specs.Option.{option_flatten, option_map}
+use Rattle.std.proofs.Common.{◌≡◌, ℕ, zero, suc, ◌+◌, ◌-◌, ◌<◌, List, [], ◌∷◌, ◌++◌, length, take, Some, sym, refl, ap, ◌∙◌, append_assoc, arith}
 use Rattle.std.specs.List.{slice_get}
 use Rattle.std.proofs.lemmas.List.{length-append, length-take-le, nil_from_length, take_all, take_at, take_more, take-take}
 use Rattle.std.proofs.lemmas.Option.{get_or_from_slice_get, slice_get-get_or, slice_get_within}
-use Rattle.std.proofs.lemmas.Bool.{eqb-true}
 use Rattle.parts.specs.Formulas.{Measure, numeral, variable, unary, binary, over, Property, compare, prefixed, joined}
-use Rattle.parts.specs.Order.{measure_size, property_size, measure_parts, property_parts, parts_of, Node, measure, property, node_size, as_property, last_node, size_of, nodes, root_of, tree_of}
+use Rattle.parts.specs.Order.{measure_size, property_size, measure_parts, property_parts, parts_of, Node, measure, property, node_size, last_node, nodes, tree_of}
 use Rattle.parts.specs.declared.kinds.Part.{Part}
 use Rattle.parts.specs.declared.kinds.Part.TheVariants.{Numeral, Variable, Unary, Binary, Over, Compare, Prefix, Connective}
-use Rattle.parts.proofs.NodesOfParts.{OneOperand, TwoOperands, Meant, as_many_nodes, as_property_some, meant}
+use Rattle.parts.proofs.NodesOfParts.{OneOperand, TwoOperands, Meant, as_many_nodes, meant}
 
 length_measure_parts : (m : Measure) (start : ℕ) → length (measure_parts start m) ≡ measure_size m
 length_measure_parts (numeral n) start = refl
