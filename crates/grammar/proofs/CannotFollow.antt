@@ -19,7 +19,7 @@ same_before us vs s e =
     sym (take-append_seam us s) ∙ ap (λ (r : List Spot). take (length us) r) e ∙ ap (λ (i : ℕ). take i (vs ++ s)) k ∙ take-append_seam vs s
 
 apart : (p : PropertyTree) (n place : ℕ) (s t : List Spot) → got p n s ≡ fault 2 place t → ⊥
-apart p n place s t e = let z : ◌≡◌ {A = ℕ} 0 1 = cc in omega arith
+apart p n place s t e = cc
 
 -- whatever begins with the refused token
 pub no_text : (rules : Rules) (s₀ s before : List Spot) (place : ℕ) → reading rules s₀ ≡ fault 2 place s → before ++ s ≡ s₀ → (ws : List Spot) → (first s).tok ≡ (first (ended ws 0)).tok → (p : PropertyTree) → PropertyText loosest (toks (before ++ ws)) p → ⊥

@@ -34,7 +34,7 @@ module _ {rules : Rules} where
 
   gives_leaf : (t : Tok) (m : MeasureTree) (test : Bool) (number : ℕ) {n n' : ℕ} {s s' : List Spot} → Spelled rules n s (leaf t (unless test number) ∷ []) n' s' → Gives m n' s' (reading.leaf rules test number m n s)
   gives_leaf t m true number {n} (more e none) = gives_brought rules n t _ e it_does
-  gives_leaf t m false number (more e none) = let z : ◌≡◌ {A = ℕ} 0 1 = cc in absurd (omega arith)
+  gives_leaf t m false number (more e none) = absurd (cc)
 
   gives_unary : (d : ℕ) (inside : Bool) (p : Reader MeasureTree) → GivesMeasures rules d inside p → {ts : List Tok} (u : Unary) (m : MeasureTree) → MeasureText inside ts m → (n n' : ℕ) (s s' : List Spot) → Spelled rules n s (measure_steps rules d m) n' s' → Gives (unary u m) n' s' (unary_arguments p (unary u) n s)
   gives_unary d inside p g u m t n n' s s' w = made_gives _ (g _ m n n' s s' t w) it_does

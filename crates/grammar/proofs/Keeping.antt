@@ -1,5 +1,6 @@
 -- Which rule a step breaks, by the tests that a reader makes: of a token that brings nothing its own rule, else also whether there is room for its part and its nesting.
-use Rattle.std.proofs.Common.{◌≡◌, ℕ, zero, suc, ◌+◌, Bool, true, false, ◌&&◌, ltb, leb, List, ◌∷◌, Some, None, Option, sym, refl, ap, ◌∙◌, ap₂, suc-add, zero-add}
+use Rattle.std.proofs.Common.{◌≡◌, ℕ, zero, suc, ◌+◌, Bool, true, false, ◌&&◌, ltb, leb, List, ◌∷◌, Some, None, Option, sym, refl, ap, ◌∙◌, ap₂, suc-add, zero-add, arith}
+use Rattle.std.proofs.lemmas.Bool.{and_parts}
 use lib.Dec.{leb-zero, leb-suc-suc}
 use Rattle.tokens.specs.Tokens.{Tok, Spot}
 use Rattle.grammar.specs.Faults.{brought_by, broken_by, fits}
@@ -13,14 +14,6 @@ Room rules n = leb n rules.parts ≡ true
 -- no deeper than may be nested
 abbrev pub Within : Rules → ℕ → Type 0
 Within rules d = leb d rules.nesting ≡ true
-
-and_true : (b : Bool) → (b && true) ≡ b
-and_true true = refl
-and_true false = refl
-
-pub both_true : (a b : Bool) → (a && b) ≡ true → (a ≡ true) × (b ≡ true)
-both_true true b e = (refl, e)
-both_true false b e = (e, cc)
 
 or_none : (o : Option ℕ) → or_else o None ≡ o
 or_none None = refl
@@ -54,7 +47,7 @@ module _ (rules : Rules) where
   limited_judged n t o r = judged n (limited t o) r flat
 
   pub bringing_judged : (n : ℕ) (t : Tok) → broken_by rules n (bringing t) ≡ unless (leb (suc n) rules.parts) 6
-  bringing_judged n t = ap (λ (b : Bool). unless (leb (suc n) rules.parts && b) 6) flat ∙ ap (λ (b : Bool). unless b 6) (and_true (leb (suc n) rules.parts))
+  bringing_judged n t = grind arith
 
   pub nesting_judged : (n d : ℕ) (t : Tok) → Room rules n → broken_by rules n (nesting d t) ≡ unless (leb d rules.nesting) 6
   nesting_judged n d t r = ap (λ (b : Bool). unless (b && leb d rules.nesting) 6) r
@@ -63,7 +56,7 @@ module _ (rules : Rules) where
   pub kept : (n : ℕ) (x : Step) → broken_by rules n x ≡ None → (x.breaks ≡ None) × Room rules (brought_by n x) × Within rules x.depth
   kept n x e =
       let h = none_or x.breaks (unless (fits rules n x) 6) e in
-      let b = both_true (leb (brought_by n x) rules.parts) (leb x.depth rules.nesting) (unless_none (fits rules n x) 6 h.1) in
+      let b = and_parts (leb (brought_by n x) rules.parts) (leb x.depth rules.nesting) (unless_none (fits rules n x) 6 h.1) in
       (h.0, b.0, b.1)
 
 -- a step that keeps the rules has its nesting, and so there was some left

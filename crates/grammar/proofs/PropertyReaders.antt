@@ -50,12 +50,6 @@ link_is e k h i = (_, a_link (linked_level k ∙ e) h.1 i.1)
 pub deeper_behind : (d left : ℕ) {most : ℕ} → d + left ≡ most → ltb 0 left ≡ true → suc d + pred left ≡ most
 deeper_behind d left deep l = let h = ltb-true 0 left l in omega arith
 
-swapped : (a b : Bool) → (a && b) ≡ (b && a)
-swapped true true = refl
-swapped true false = refl
-swapped false true = refl
-swapped false false = refl
-
 -- the steps of a joined tree, as they are read
 joined_steps : (ps qs rs ls : List Step) (x : Step) → ls ≡ x ∷ rs → ps ++ (ls ++ qs) ≡ ((ps ++ (x ∷ [])) ++ rs) ++ qs
 joined_steps ps qs rs ls x e = ap (λ (ks : List Step). ps ++ (ks ++ qs)) e ∙ simp append_assoc
@@ -96,7 +90,7 @@ module _ {rules : Rules} where
   prefix_sign_right : (d left n place : ℕ) (s : List Spot) (x : PrefixSign) → d + left ≡ rules.nesting → Right rules (one (leading (suc d) (prefix x))) n (spot (prefix x) place ∷ s) (prefix_sign rules left n (spot (prefix x) place ∷ s))
   prefix_sign_right d left n place s x deep =
       take_right tt (leading (suc d) (prefix x)) (ltb 0 left && leb (suc n) rules.parts) 6 (λ z. omega arith)
-      (ap (λ (b : Bool). unless b 6) (ap (λ (k : ℕ). leb (suc n) rules.parts && leb (suc d) k) (sym deep) ∙ ap (λ (b : Bool). leb (suc n) rules.parts && b) (leb_left d left) ∙ swapped (leb (suc n) rules.parts) (ltb 0 left))) refl tt refl
+      (grind (arith, leb_left d left, deep)) refl tt refl
 
   prefixed_right : {inner : Reader PropertyTree} (d left n place : ℕ) (s : List Spot) (x : PrefixSign) → d + left ≡ rules.nesting → Room rules n → (ltb 0 left ≡ true → Fine rules inner (properties rules (suc d) 0)) → Right rules (properties rules d 0) n (spot (prefix x) place ∷ s) (prefixed_by rules left x inner n (spot (prefix x) place ∷ s))
   prefixed_right d left n place s x deep r fine =

@@ -99,10 +99,10 @@ index_numeral_same (Some (Plus, n)) k e = e
 index_numeral_same (Some (Minus, n)) k e = cc
 
 no_minus : (o : Option (Sign × ℕ)) (m : ℕ) → index_numeral o ≡ Some (Minus, m) → ⊥
-no_minus None m e = let z : ◌≡◌ {A = ℕ} 0 1 = cc in omega arith
-no_minus (Some (Unsigned, n)) m e = let z : ◌≡◌ {A = ℕ} 0 1 = cc in omega arith
-no_minus (Some (Plus, n)) m e = let z : ◌≡◌ {A = ℕ} 0 1 = cc in omega arith
-no_minus (Some (Minus, n)) m e = let z : ◌≡◌ {A = ℕ} 0 1 = cc in omega arith
+no_minus None m e = cc
+no_minus (Some (Unsigned, n)) m e = cc
+no_minus (Some (Plus, n)) m e = cc
+no_minus (Some (Minus, n)) m e = cc
 
 -- the index of X has no minus
 pub index_numeral_is : (o : Option (Sign × ℕ)) (k : Sign × ℕ) → index_numeral o ≡ Some k → (o ≡ Some k) × LeadText (skipping k.0 k.1)
