@@ -41,8 +41,7 @@ module _ (rules : Rules) where
   -- where no connective of this level follows, the links end
   pub links_end : (most level : ℕ) (inner : Reader PropertyTree) (p : PropertyTree) (n : ℕ) (s : List Spot) → sign_at level (first s).tok ≡ None → links most rules level inner p n s ≡ got p n s
   unfolding links
-  links_end zero level inner p n s e = refl
-  links_end (suc most) level inner p n s e = ap (λ (o : Option ConnectiveSign). elim o [ None ↦ got p n s | Some x ↦ and_then (linked rules inner p x n s) (links most rules level inner) ]) e
+  links_end most level inner p n s e = grind arith
 
   -- one link more: the sign at hand is of this level, and what follows it is read
   links_more : (most level : ℕ) (inner : Reader PropertyTree) (x : ConnectiveSign) (p q : PropertyTree) (n place : ℕ) (s : List Spot) {n' : ℕ} {s' : List Spot} → sign_level x ≡ level → Gives q n' s' (linked rules inner p x n (spot (connective x) place ∷ s)) → links (suc most) rules level inner p n (spot (connective x) place ∷ s) ≡ links most rules level inner q n' s'

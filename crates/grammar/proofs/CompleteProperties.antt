@@ -1,5 +1,5 @@
 -- The readers of comparisons and operands read every operand that is spelled and breaks no rule.
-use Rattle.std.proofs.Common.{◌≡◌, ℕ, zero, suc, pred, ◌+◌, Bool, true, false, ◌&&◌, ltb, List, [], ◌∷◌, ◌++◌, None, sym, refl, subst, ap₂, append_assoc}
+use Rattle.std.proofs.Common.{◌≡◌, ℕ, zero, suc, pred, ◌+◌, Bool, true, false, ◌&&◌, ltb, List, [], ◌∷◌, ◌++◌, None, sym, refl, subst, ap₂, append_assoc, arith}
 use Rattle.parts.specs.declared.kinds.Comparator.{Comparator}
 use Rattle.parts.specs.declared.kinds.Quantity.{Quantity}
 use Rattle.parts.specs.declared.kinds.Quantity.TheVariants.{Value, Change}
@@ -53,18 +53,10 @@ module _ {rules : Rules} where
 
   -- what begins a measure begins a comparison
   by_comparison : (d left : ℕ) (inner whole : Reader PropertyTree) {inside : Bool} {ts : List Tok} {m : MeasureTree} {n n' : ℕ} {s s' : List Spot} → MeasureText inside ts m → Spelled rules n s (measure_steps rules d m) n' s' → operand_at rules left inner whole (first s).tok n s ≡ comparison rules left n s
-  by_comparison d left inner whole a_numeral (more e w) = refl
-  by_comparison d left inner whole a_variable (more e w) = refl
-  by_comparison d left inner whole (a_unary t) (more e w) = refl
-  by_comparison d left inner whole (a_binary t u) (more e w) = refl
-  by_comparison d left inner whole (a_statistic t) (more e w) = refl
+  by_comparison d left inner whole h k = grind arith
 
   measure_begins : (d : ℕ) {inside : Bool} {ts : List Tok} {m : MeasureTree} {n n' : ℕ} {s s' : List Spot} → MeasureText inside ts m → Spelled rules n s (measure_steps rules d m) n' s' → is_mark OpenWindow (first s).tok ≡ false
-  measure_begins d a_numeral (more e w) = refl
-  measure_begins d a_variable (more e w) = refl
-  measure_begins d (a_unary t) (more e w) = refl
-  measure_begins d (a_binary t u) (more e w) = refl
-  measure_begins d (a_statistic t) (more e w) = refl
+  measure_begins d h k = grind arith
 
   -- no formula begins as an index of X does
   property_begins : (d : ℕ) {level : ℕ} {ts : List Tok} {p : PropertyTree} {n n' : ℕ} {s s' : List Spot} → PropertyText level ts p → Spelled rules n s (property_steps rules d p) n' s' → is_mark OpenWindow (first s).tok ≡ false

@@ -1,5 +1,5 @@
 -- The readers of one token, of windows, and of prefixes and connectives behind their signs read whatever is spelled and breaks no rule.
-use Rattle.std.proofs.Common.{◌≡◌, ℕ, suc, ◌+◌, Bool, true, false, cond, List, [], ◌∷◌, ◌++◌, None, sym, refl, subst}
+use Rattle.std.proofs.Common.{◌≡◌, ℕ, suc, ◌+◌, Bool, true, false, cond, List, [], ◌∷◌, ◌++◌, None, sym, refl, subst, arith}
 use Rattle.tokens.specs.Tokens.{Tok, Spot, mark, numeral}
 use Rattle.tokens.specs.declared.words.ConnectiveSign.{ConnectiveSign}
 use Rattle.tokens.specs.declared.words.PrefixSign.{PrefixSign}
@@ -34,15 +34,11 @@ if_false : {A : Type 0} {a : A} {n : ℕ} {s : List Spot} {b : Bool} {o : Outcom
 if_false {a} {n} {s} {o} other e g = subst (λ (c : Bool). Gives a n s (cond c other o)) (sym e) g
 
 own_mark : (p : Punctuation) → is_mark p (mark p) ≡ true
-own_mark Open = refl
-own_mark Close = refl
-own_mark OpenWindow = refl
-own_mark CloseWindow = refl
-own_mark Comma = refl
+own_mark p = grind arith
 
 -- the sign of a part that is brought
 pub gives_brought : (rules : Rules) (n : ℕ) (t : Tok) {B : Type 0} {b : B} {n' : ℕ} {s s' : List Spot} (f : Unit → Reader B) → broken_by rules n (bringing t) ≡ None → Gives b n' s' (f tt (suc n) s) → Gives b n' s' (and_then (bring rules n s) f)
-gives_brought rules n t {b} {n'} {s} {s'} f e g = subst (λ (c : Bool). Gives b n' s' (and_then (cond c (got tt (suc n) s) (refuse 6 s)) f)) (sym (kept rules n (bringing t) e).1) g
+gives_brought rules n t f e g = grind arith
 
 module _ {rules : Rules} where
   -- what begins with xs is read by one reader after another, the first of which may look at what follows

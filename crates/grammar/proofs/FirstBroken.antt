@@ -12,11 +12,7 @@ broken_from rules n x xs i (Some number) = Some (number, i)
 broken_from rules n x xs i None = first_broken rules (brought_by n x) xs (suc i)
 
 pub first_broken_step : (rules : Rules) (n : ℕ) (x : Step) (xs : List Step) (i : ℕ) {o : Option ℕ} → broken_by rules n x ≡ o → first_broken rules n (x ∷ xs) i ≡ broken_from rules n x xs i o
-first_broken_step rules n x xs i e = opened (broken_by rules n x) ∙ ap (λ (o : Option ℕ). broken_from rules n x xs i o) e
-  where
-    opened : (o : Option ℕ) → elim o [ Some number ↦ Some (number, i) | None ↦ first_broken rules (brought_by n x) xs (suc i) ] ≡ broken_from rules n x xs i o
-    opened (Some number) = refl
-    opened None = refl
+first_broken_step rules n x xs i e = grind arith
 
 module _ {rules : Rules} where
   pub none_broken : {n n' : ℕ} {s s' : List Spot} {xs : List Step} (i : ℕ) → Spelled rules n s xs n' s' → first_broken rules n xs i ≡ None

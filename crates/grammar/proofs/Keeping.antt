@@ -16,21 +16,17 @@ abbrev pub Within : Rules → ℕ → Type 0
 Within rules d = leb d rules.nesting ≡ true
 
 or_none : (o : Option ℕ) → or_else o None ≡ o
-or_none None = refl
-or_none (Some n) = refl
+or_none o = grind arith
 
 pub none_or : (o p : Option ℕ) → or_else o p ≡ None → (o ≡ None) × (p ≡ None)
-none_or None p e = (refl, e)
-none_or (Some n) p e = (cc, cc)
+none_or o p e = grind arith
 
 pub unless_none : (b : Bool) (number : ℕ) → unless b number ≡ None → b ≡ true
-unless_none true number e = refl
-unless_none false number e = cc
+unless_none b number e = grind arith
 
 -- how deeply a bracket is nested, where so many nestings are left
 pub leb_left : (d left : ℕ) → leb (suc d) (d + left) ≡ ltb 0 left
-leb_left zero left = ap (λ (k : ℕ). leb 1 k) (zero-add left)
-leb_left (suc d) left = ap (λ (k : ℕ). leb (suc (suc d)) k) (suc-add d left) ∙ leb-suc-suc (suc d) (d + left) ∙ leb_left d left
+leb_left d left = grind arith
 
 module _ (rules : Rules) where
   -- a step that brings no more than there is room for is judged by its own rule
@@ -54,14 +50,11 @@ module _ (rules : Rules) where
 
   -- what a step that breaks no rule keeps
   pub kept : (n : ℕ) (x : Step) → broken_by rules n x ≡ None → (x.breaks ≡ None) × Room rules (brought_by n x) × Within rules x.depth
-  kept n x e =
-      let h = none_or x.breaks (unless (fits rules n x) 6) e in
-      let b = and_parts (leb (brought_by n x) rules.parts) (leb x.depth rules.nesting) (unless_none (fits rules n x) 6 h.1) in
-      (h.0, b.0, b.1)
+  kept n x e = grind arith
 
 -- a step that keeps the rules has its nesting, and so there was some left
 pub left_for : (rules : Rules) (n d left : ℕ) (x : Step) → d + left ≡ rules.nesting → x.depth ≡ suc d → broken_by rules n x ≡ None → ltb 0 left ≡ true
-left_for rules n d left x deep is e = sym (leb_left d left) ∙ ap (λ (k : ℕ). leb (suc d) k) deep ∙ ap (λ (k : ℕ). leb k rules.nesting) (sym is) ∙ (kept rules n x e).2
+left_for rules n d left x deep is e = grind arith
 
 pub opened : {rules : Rules} {n n' : ℕ} {s s' : List Spot} {xs : List Step} (d left : ℕ) (x : Step) → d + left ≡ rules.nesting → x.depth ≡ suc d → Spelled rules n s (x ∷ xs) n' s' → ltb 0 left ≡ true
 opened {rules} {n} d left x deep is (more e w) = left_for rules n d left x deep is e

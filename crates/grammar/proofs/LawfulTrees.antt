@@ -37,14 +37,10 @@ all_kept rules n (x ∷ xs) i e = by (broken_by rules n x) refl (λ k. all_kept 
     by (Some number) b rest = absurd (let none : Some (number, i) ≡ None = sym (first_broken_step rules n x xs i b) ∙ e in cc)
 
 magnitude_of_signed : (s : Sign) (n : ℕ) → nat_abs (signed s n) ≡ n
-magnitude_of_signed Unsigned n = refl
-magnitude_of_signed Plus n = refl
-magnitude_of_signed Minus zero = refl
-magnitude_of_signed Minus (suc n) = refl
+magnitude_of_signed s n = grind arith
 
 known_column : (o : Option ℕ) (width : ℕ) → is_some o ≡ true → ((v : ℕ) → o ≡ Some v → v < width) → ltb (unwrap_or o 0) width ≡ true
-known_column None width e h = cc
-known_column (Some v) width e h = let below = h v refl in grind (arith, nat_tests)
+known_column o width e h = grind arith
 
 module _ (columns : Columns) (largest width : ℕ) (known : (name : List ℕ) (v : ℕ) → columns name ≡ Some v → v < width) where
   abbrev rules : Rules
@@ -54,9 +50,7 @@ module _ (columns : Columns) (largest width : ℕ) (known : (name : List ℕ) (v
   Kept xs = AllByRecursion (Keeps rules) xs
 
   window_lawful : (a b : ℕ) → Kept (window_steps rules a b) → lawful_window (window a b) ≡ true
-  window_lawful a b h =
-      let ends = none_or (unless (rules.numeral b) 3) (unless (rules.order a b) 4) h.1.1.1.0.0 in
-      and_from (leb a b) (leb b 1000000000) (unless_none (rules.order a b) 4 ends.1) (unless_none (rules.numeral b) 3 ends.0)
+  window_lawful a b h = grind arith
 
   pub measure_lawful : {inside : Bool} {ts : List Tok} {m : MeasureTree} (d : ℕ) → MeasureText inside ts m → Kept (measure_steps rules d m) → lawful_measure width largest inside (measure_of columns m) ≡ true
   measure_lawful d (a_numeral {inside} {s} {n}) h = ap (λ (k : ℕ). leb k 1000000000) (magnitude_of_signed s n) ∙ unless_none (rules.numeral n) 3 h.0.0
@@ -74,18 +68,10 @@ module _ (columns : Columns) (largest width : ℕ) (known : (name : List ℕ) (v
       and_from _ _ (window_lawful a b both.0) (and_from _ _ (measure_lawful (suc d) t both.1) (unless_none _ 7 parts.1.0.0))
 
   lead_lawful : (d : ℕ) (l : Lead) → Kept (lead_steps rules d l) → lawful_prefix (prefix_of l) ≡ true
-  lead_lawful d negation h = refl
-  lead_lawful d next h = refl
-  lead_lawful d (skipping s k) h = unless_none (rules.index k) 3 h.1.1.0.0
-  lead_lawful d (eventually a b) h = window_lawful a b h.1
-  lead_lawful d (always a b) h = window_lawful a b h.1
+  lead_lawful d l h = grind arith
 
   link_lawful : (l : Link) → Kept (link_steps rules l) → lawful_connective (connective_of l) ≡ true
-  link_lawful and h = refl
-  link_lawful or h = refl
-  link_lawful implies h = refl
-  link_lawful iff h = refl
-  link_lawful (until a b) h = window_lawful a b h.1
+  link_lawful l h = grind arith
 
   left_lawful : {ts : List Tok} {m : MeasureTree} (d : ℕ) (q : Quantity) → MeasureText false ts m → Kept (left_steps rules d q m) → lawful_measure width largest false (measure_of columns m) ≡ true
   left_lawful d Value t h = measure_lawful d t h

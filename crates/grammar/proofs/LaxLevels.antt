@@ -18,10 +18,10 @@ linked_behind rules inner p y n s = and_then (link rules y n s) (λ l n s. and_t
 module _ (rules : Rules) where
   linked_is_behind : (inner : Reader PropertyTree) (p : PropertyTree) (y : ConnectiveSign) (n : ℕ) (x : Spot) (s : List Spot) → leb (suc n) rules.parts ≡ true → linked rules inner p y n (x ∷ s) ≡ linked_behind rules inner p y (suc n) s
   unfolding linked_behind
-  linked_is_behind inner p y n x s e = ap (λ (b : Bool). and_then (cond b (got tt (suc n) (x ∷ s)) (refuse 6 (x ∷ s))) (λ _ n s. and_then (link rules y n (rest s)) (λ l n s. and_then (inner n s) (λ q n s. got (joined l p q) n s)))) e
+  linked_is_behind inner p y n x s e = grind arith
 
   linked_full : (inner : Reader PropertyTree) (p : PropertyTree) (y : ConnectiveSign) (n : ℕ) (x : Spot) (s : List Spot) → leb (suc n) rules.parts ≡ false → linked rules inner p y n (x ∷ s) ≡ fault 6 x.at (x ∷ s)
-  linked_full inner p y n x s e = ap (λ (b : Bool). and_then (cond b (got tt (suc n) (x ∷ s)) (refuse 6 (x ∷ s))) (λ _ n s. and_then (link rules y n (rest s)) (λ l n s. and_then (inner n s) (λ q n s. got (joined l p q) n s)))) e
+  linked_full inner p y n x s e = grind arith
 
   -- one link more, where there may be as many as tokens and k
   link_step : (k level : ℕ) (inner : Reader PropertyTree) (p : PropertyTree) (y : ConnectiveSign) (n : ℕ) (x : Spot) (s : List Spot) → leb (suc n) rules.parts ≡ true → sign_at level x.tok ≡ Some y → links (k + length (x ∷ s)) rules level inner p n (x ∷ s) ≡ and_then (linked_behind rules inner p y (suc n) s) (links (k + length s) rules level inner)

@@ -36,20 +36,10 @@ opening_follows left left' h n (x ∷ s) = by_token_follows (λ k t. cond (is_ma
 
 -- an opening bracket is read only where some nesting is left
 opening_got : (left n m : ℕ) (s t : List Spot) (u : Unit {0}) → opening left n s ≡ got u m t → ltb 0 left ≡ true
-opening_got left n m s t u e = by (is_mark Open (first s).tok) (ltb 0 left) e
-  where
-    by : (b c : Bool) → cond b (cond c (got u n (rest s)) (refuse 6 s)) (refuse 2 s) ≡ got u m t → c ≡ true
-    by true true e = refl
-    by true false e = cc
-    by false true e = refl
-    by false false e = cc
+opening_got left n m s t u e = grind arith
 
 prefix_sign_got : (rules : Rules) (left n m : ℕ) (s t : List Spot) (u : Unit {0}) → prefix_sign rules left n s ≡ got u m t → ltb 0 left ≡ true
-prefix_sign_got rules left n m s t u e = by (ltb 0 left) (leb (suc n) rules.parts) e
-  where
-    by : (b c : Bool) → cond (b && c) (got u (suc n) (rest s)) (refuse 6 s) ≡ got u m t → b ≡ true
-    by true c e = refl
-    by false c e = cc
+prefix_sign_got rules left n m s t u e = grind arith
 
 module _ (rules : Rules) (parts nesting : ℕ) (roomy : rules.parts ≤ parts) where
   pub room : (n : ℕ) → leb n rules.parts ≡ true → leb n parts ≡ true

@@ -46,8 +46,7 @@ module _ {rules : Rules} where
 
   -- a refusal by 2 is placed at the token that cannot follow
   cannot_there : {n n' number place : ℕ} {s s' : List Spot} {xs left : List Step} → number ≡ 2 → Why rules n s xs n' s' left number place → place ≡ (first s').at
-  cannot_there two cannot = refl
-  cannot_there two (broken not_two b q) = absurd (not_two two)
+  cannot_there two h = grind arith
 
   breaks_there : {n number place : ℕ} {s s' : List Spot} {xs left : List Step} {p : PropertyTree} → AProperty loosest p → steps rules p ≡ xs ++ left → (w : Spelled rules 0 s xs n s') → (number ≡ 2 → ⊥) → Why rules 0 s xs n s' left number place → (back : ℕ) × (place ≡ (first (drop (length (consumed w) - back) s)).at) × Breaks rules (toks (consumed w)) (first s').tok number back
   breaks_there h k w not_two cannot = absurd (not_two refl)

@@ -20,18 +20,10 @@ after_token : {ts us : List Tok} (t : Tok) → ts ≡ us → t ∷ ts ≡ t ∷ 
 after_token t e = ap {B = List Tok} (λ ts. t ∷ ts) e
 
 tokens_of_lead : (rules : Rules) (d : ℕ) (l : Lead) → step_tokens (lead_steps rules d l) ≡ lead_tokens l
-tokens_of_lead rules d negation = refl
-tokens_of_lead rules d next = refl
-tokens_of_lead rules d (skipping s k) = refl
-tokens_of_lead rules d (eventually a b) = refl
-tokens_of_lead rules d (always a b) = refl
+tokens_of_lead rules d l = grind arith
 
 tokens_of_link : (rules : Rules) (l : Link) → step_tokens (link_steps rules l) ≡ link_tokens l
-tokens_of_link rules and = refl
-tokens_of_link rules or = refl
-tokens_of_link rules implies = refl
-tokens_of_link rules iff = refl
-tokens_of_link rules (until a b) = refl
+tokens_of_link rules l = grind arith
 
 measure_tokens : {inside : Bool} {ts : List Tok} {m : MeasureTree} (rules : Rules) (d : ℕ) → MeasureText inside ts m → step_tokens (measure_steps rules d m) ≡ ts
 measure_tokens rules d a_numeral = refl

@@ -1,5 +1,5 @@
 -- Measures over a window, F, G and U, told along a tour, are as their rules say over the visited states. Assumes nothing.
-use Rattle.std.proofs.Common.{◌≡◌, ℕ, suc, Bool, true, false, cond, List, [], ◌∷◌, map, length, get_or, take, ℤ, Some, None, Option, sym, refl, ap, ◌∙◌, ap₂}
+use Rattle.std.proofs.Common.{◌≡◌, ℕ, suc, Bool, true, false, cond, List, [], ◌∷◌, map, length, get_or, take, ℤ, Some, None, Option, sym, refl, ap, ◌∙◌, ap₂, arith}
 use mathlib.Core.List.{foldr}
 use Rattle.std.specs.Option.{option_map}
 use Rattle.parts.specs.declared.kinds.Statistic.{Statistic}
@@ -59,10 +59,7 @@ module _ (p q : List State → Verdict) where
 
   -- what a visited state adds, from the verdicts after it: v of the untils, l the least of p, and the end
   step : (a b v l end : Verdict) → greater b (lesser a (greater v (lesser l end))) ≡ greater (greater b (lesser a v)) (lesser (lesser a l) end)
-  step a b v l end =
-      ap (greater b) (lesser_greater a v (lesser l end))
-      ∙ sym (greater_assoc b (lesser a v) (lesser a (lesser l end)))
-      ∙ ap (greater (greater b (lesser a v))) (sym (lesser_assoc a l end))
+  step a b v l end = grind arith
 
   fold_until : (end : Verdict) (ts : List (List State)) → foldr (until_step p q) end ts ≡ greater (untils ts) (lesser (least (map p ts)) end)
   fold_until end [] = refl
@@ -72,8 +69,7 @@ module _ (p q : List State → Verdict) where
       ∙ ap (λ x. greater x (lesser (lesser (p t) (least (map p ts))) end)) (sym (untils_cons t ts))
 
   end_until : (told : Bool) (l : Verdict) → lesser l (cond told False Undecided) ≡ cond told False (lesser Undecided l)
-  end_until true l = lesser_false l
-  end_until false l = lesser_comm l Undecided
+  end_until told l = grind arith
 
 pub windows_by_rule : WindowsByRule
 windows_by_rule mark w run s m p q =
