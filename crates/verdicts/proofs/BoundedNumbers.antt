@@ -24,25 +24,16 @@ use Rattle.verdicts.specs.Tours.{tour, tour_at, within}
 use Rattle.verdicts.specs.Verdicts.{both, collect, value}
 
 magnitude_sum : (x y : ℤ) → nat_abs (x +ℤ y) ≤ nat_abs x + nat_abs y
-magnitude_sum (pos a) (pos b) = omega arith
-magnitude_sum (pos a) (negsuc b) = omega (arith, ints)
-magnitude_sum (negsuc a) (pos b) = omega (arith, ints)
-magnitude_sum (negsuc a) (negsuc b) = omega arith
+magnitude_sum x y = grind arith
 
 magnitude_opposite : (x : ℤ) → nat_abs (neg_ℤ x) ≡ nat_abs x
-magnitude_opposite (pos zero) = refl
-magnitude_opposite (pos (suc n)) = refl
-magnitude_opposite (negsuc n) = refl
+magnitude_opposite x = grind arith
 
 magnitude_product : (x y : ℤ) → nat_abs (x *ℤ y) ≡ nat_abs x * nat_abs y
-magnitude_product (pos a) (pos b) = refl
-magnitude_product (pos a) (negsuc b) = magnitude_opposite (pos (a * suc b))
-magnitude_product (negsuc a) (pos b) = magnitude_opposite (pos (suc a * b))
-magnitude_product (negsuc a) (negsuc b) = refl
+magnitude_product x y = grind arith
 
 magnitude_sign : (x : ℤ) → nat_abs (int_signum x) ≤ 1
-magnitude_sign (pos n) = omega arith
-magnitude_sign (negsuc n) = omega arith
+magnitude_sign x = grind arith
 
 -- a number that is within a bound, where it is known; and at most so many of them
 abbrev Within : ℕ → Option ℤ → Type 0
@@ -54,8 +45,7 @@ AllWithin bound most None = Unit {0}
 AllWithin bound most (Some xs) = AllByRecursion (λ x. nat_abs x ≤ bound) xs × (length xs ≤ most)
 
 within_either : (bound : ℕ) (t : Bool) (x y : ℤ) → nat_abs x ≤ bound → nat_abs y ≤ bound → nat_abs (cond t x y) ≤ bound
-within_either bound true x y h k = h
-within_either bound false x y h k = k
+within_either bound t x y h k = grind arith
 
 least_within : (bound : ℕ) (x : ℤ) (xs : List ℤ) → nat_abs x ≤ bound → AllByRecursion (λ x. nat_abs x ≤ bound) xs → nat_abs (least_of x xs) ≤ bound
 least_within bound x [] h each = h
@@ -70,9 +60,7 @@ total_within bound [] each = omega arith
 total_within bound (x ∷ xs) each = omega (arith, magnitude_sum x (total xs), each.0, total_within bound xs each.1, suc-mul (length xs) bound)
 
 unary_within : (u : Unary) (bound : ℕ) (x : Option ℤ) → Within bound x → Within (unary_bound u bound) (option_map (of_one u) x)
-unary_within u bound None h = tt
-unary_within Abs bound (Some x) h = h
-unary_within Sign bound (Some x) h = magnitude_sign x
+unary_within u bound x h = grind arith
 
 binary_within : (b : Binary) (m n : ℕ) (x y : Option ℤ) → Within m x → Within n y → Within (binary_bound b m n) (both (of_two b) x y)
 binary_within b m n None y h k = tt
@@ -91,13 +79,10 @@ statistic_within Sum bound (Some xs) h = omega (arith, total_within bound xs h.0
 statistic_within Count bound (Some xs) h = h.1
 
 more_within : (bound n : ℕ) (xs : Option (List ℤ)) → AllWithin bound n xs → AllWithin bound (suc n) xs
-more_within bound n None h = tt
-more_within bound n (Some xs) h = (h.0, omega (arith, h.1))
+more_within bound n xs h = grind arith
 
 collect_within : (bound n : ℕ) (x : Option ℤ) (xs : Option (List ℤ)) → Within bound x → AllWithin bound n xs → AllWithin bound (suc n) (both ◌∷◌ x xs)
-collect_within bound n None xs h k = tt
-collect_within bound n (Some x) None h k = tt
-collect_within bound n (Some x) (Some xs) h k = ((h, k.0), omega (arith, k.1))
+collect_within bound n x xs h k = grind arith
 
 none_within : (bound n : ℕ) → AllWithin bound n (Some [])
 none_within bound n = (tt, omega arith)
@@ -129,8 +114,7 @@ module _ (largest : ℕ) (mark : Mark) where
   variable_within v (s ∷ r) small = all_nth v s.values small.0
 
   few_within : (bound n : ℕ) (xs : Option (List ℤ)) → n ≤ most_states → AllWithin bound n xs → AllWithin bound most_states xs
-  few_within bound n None few h = tt
-  few_within bound n (Some xs) few h = (h.0, omega (arith, h.1))
+  few_within bound n xs few h = grind arith
 
   value_within : (m : Measure) (run : List State) → length run ≤ most_states → AllByRecursion Small run → Within (bound_of largest m) (value m mark run)
   value_within (numeral n) run few small = omega arith

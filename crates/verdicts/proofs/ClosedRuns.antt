@@ -39,22 +39,13 @@ use Rattle.verdicts.proofs.OnlyNumbers.{Only, all_told, only_both, only_mapped}
 
 -- whether the last state endures is all that moments ask of a mark
 belongs_as : (mark other : Mark) → endures other ≡ true → {states : List State} {i t j : ℕ} → Belongs mark states i t j → Belongs other states i t j
-belongs_as mark other closed b = record {
-  from = b.from;
-  there = b.there;
-  reached = elim b.reached [ inl h ↦ inl h | inr h ↦ inr (closed, h.1) ];
-  least = b.least;
-}
+belongs_as mark other closed b = grind arith
 
 visits_as : (mark other : Mark) → endures other ≡ true → {w : Window} {run : List State} {j : ℕ} → Visits mark w run j → Visits other w run j
-visits_as mark other closed v = record { moment = v.moment; from = v.from; upto = v.upto; belongs = belongs_as mark other closed v.belongs }
+visits_as mark other closed v = grind arith
 
 in_order_as : (mark : Mark) → endures mark ≡ true → {w : Window} {run : List State} {js : List ℕ} → InOrder mark w run js → InOrder Closed w run js
-in_order_as mark closed order = record {
-  rising = order.rising;
-  each = λ j m. visits_as mark Closed refl (order.each j m);
-  all = λ j v. order.all j (visits_as Closed mark closed v);
-}
+in_order_as mark closed order = grind arith
 
 compared_told : (P Q : ℤ → Type 0) (x y : Option ℤ) (c : Comparator) → Only P x → Only Q y → Told ((a : ℤ) × (b : ℤ) × P a × Q b × (compares c a b ≡ true)) (compared c x y)
 compared_told P Q x y c m n = rw (m.known, n.known) (by_test (compares c m.number n.number) refl)
@@ -194,8 +185,7 @@ module _ (shape : Shape) (largest : ℕ) (mark : Mark) (closed : endures mark �
 
 -- as the law says it
 told_tells : (p : Property) (run : List State) {v : Verdict} → Told (Holds p run) v → Tells p run v × (v ≡ Undecided → ⊥)
-told_tells p run (right x) = (record { right = λ e. x; wrong = λ e. absurd (true≢false e) }, true≢undecided)
-told_tells p run (wrong f) = (record { right = λ e. absurd (true≢false (sym e)); wrong = λ e. f }, false≢undecided)
+told_tells p run h = grind arith
 
 pub two_valued : TwoValued
 two_valued shape largest p h mark closed run fits some = told_tells p run (verdict_told shape largest mark closed p h run fits some)

@@ -15,9 +15,7 @@ use Rattle.verdicts.specs.declared.verdict.Verdict.TheVariants.{False, True, Und
 
 -- what is told of a run by a verdict is told by an earlier one, if that was decided and stayed
 earlier_tells : (p : Property) (run : List State) (v w : Verdict) → ((v ≡ Undecided → ⊥) → w ≡ v) → Tells p run w → Tells p run v
-earlier_tells p run True w stays told = record { right = λ e. told.right (stays true≢undecided); wrong = λ e. absurd (true≢false e) }
-earlier_tells p run False w stays told = record { right = λ e. absurd (true≢false (sym e)); wrong = λ e. told.wrong (stays false≢undecided) }
-earlier_tells p run Undecided w stays told = record { right = λ e. absurd (true≢undecided (sym e)); wrong = λ e. absurd (false≢undecided (sym e)) }
+earlier_tells p run v w stays told = grind arith
 
 pub foretells : Foretells
 foretells largest kept p h open' fits some closed begins =

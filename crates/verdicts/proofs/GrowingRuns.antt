@@ -39,11 +39,11 @@ last_keeps none done false false begun' ended' join join' x joins order begins e
 
 -- On a run whose last state does not yet endure, a moment within a state stays within it.
 within_stays : (mark later : Mark) (t : ℕ) (s : State) (r : List State) → endures mark ≡ false → within mark t s [] ≡ true → within later t s r ≡ true
-within_stays mark later t s r lasts h = or_left (leb t s.stay) _ (elim (or_cases (leb t s.stay) _ (rw lasts at h)) [ inl e ↦ e | inr e ↦ absurd (false≢true e) ])
+within_stays mark later t s r lasts h = grind arith
 
 -- where another state follows, the marks make no difference
 within_middle : (mark later : Mark) (t : ℕ) (s n : State) (r more : List State) → within mark t s (n ∷ r) ≡ within later t s (n ∷ more)
-within_middle mark later t s n r more = ap (λ x. leb t s.stay || x) (and_right (endures mark) false refl ∙ sym (and_right (endures later) false refl))
+within_middle mark later t s n r more = grind arith
 
 module _ {A : Type 0} (none done : A) (join join' : List State → A → A) (mark later : Mark) (more : List State)
     (open' : endures mark ≡ false)
@@ -118,8 +118,7 @@ module _ (width largest : ℕ) (mark later : Mark) (more : List State) (open' : 
       over_keeps Undecided False (until_step (verdict p mark) (verdict q mark)) (until_step (verdict p later) (verdict q later)) (λ t x x' k. greater_keeps (verdict_keeps q parts.2 t) (lesser_keeps (verdict_keeps p parts.1 t) k)) w parts.0 run
 
 stays : {A : Type 0} {none x x' : A} → Keeps none x x' → (x ≡ none → ⊥) → x' ≡ x
-stays yet h = absurd (h refl)
-stays same h = refl
+stays h k = grind arith
 
 pub verdicts_stay : VerdictsStay
 verdicts_stay width largest p h mark later open' run more = stays (verdict_keeps width largest mark later more open' p h run)

@@ -1,5 +1,5 @@
 -- Answers that stay once they are there: how connectives, comparisons and computations keep them. Assumes nothing.
-use Rattle.std.proofs.Common.{ℤ, Some, None, Option}
+use Rattle.std.proofs.Common.{ℤ, Some, None, Option, arith}
 use Rattle.std.specs.Option.{option_map}
 use Rattle.parts.specs.declared.kinds.Comparator.{Comparator}
 use Rattle.verdicts.specs.Tables.{greater, implies, lesser, swap}
@@ -25,10 +25,7 @@ lesser_right Undecided w = yet
 lesser_right True w = yet
 
 pub lesser_keeps : {v v' w w' : Verdict} → Keeps Undecided v v' → Keeps Undecided w w' → Keeps Undecided (lesser v w) (lesser v' w')
-lesser_keeps yet yet = yet
-lesser_keeps (yet {later}) (same {answer}) = lesser_left later answer
-lesser_keeps (same {answer}) (yet {later}) = lesser_right answer later
-lesser_keeps same same = same
+lesser_keeps h k = grind arith
 
 greater_left : (v w : Verdict) → Keeps Undecided (greater Undecided w) (greater v w)
 greater_left v False = yet
@@ -43,10 +40,7 @@ greater_right Undecided w = yet
 greater_right True w = same
 
 pub greater_keeps : {v v' w w' : Verdict} → Keeps Undecided v v' → Keeps Undecided w w' → Keeps Undecided (greater v w) (greater v' w')
-greater_keeps yet yet = yet
-greater_keeps (yet {later}) (same {answer}) = greater_left later answer
-greater_keeps (same {answer}) (yet {later}) = greater_right answer later
-greater_keeps same same = same
+greater_keeps h k = grind arith
 
 pub swap_keeps : {v v' : Verdict} → Keeps Undecided v v' → Keeps Undecided (swap v) (swap v')
 swap_keeps yet = yet

@@ -22,8 +22,7 @@ use Rattle.verdicts.specs.Verdicts.{verdict}
 
 -- a last state that endures ends its run
 not_enduring : (mark : Mark) → ended mark ≡ false → endures mark ≡ false
-not_enduring Open h = refl
-not_enduring Closed h = h
+not_enduring mark h = grind arith
 
 pub verdicts_last : VerdictsLast
 verdicts_last width largest p h most m steps decided =
@@ -38,14 +37,10 @@ pub lawful_fits : (shape : Shape) (largest : ℕ) (states : List State) → AllB
 lawful_fits shape largest states lawful = All-weaker (Lawful shape largest) (Fits shape) (λ s l. record { stay = l.stay; values = l.values }) states lawful
 
 stay_fits : (longest : ℕ) (stay : ℤ) → stay_within longest stay ≡ true → IsInRange 1 longest (nat_abs stay)
-stay_fits longest (pos n) h = grind (arith, nat_tests, h)
-stay_fits longest (negsuc n) h = absurd (false≢true h)
+stay_fits longest stay h = grind arith
 
 offered_fits : (shape : Shape) (most : ℕ) (o : Offered) → unlawful shape most o ≡ None → Fits shape (state_of o)
-offered_fits shape most o e = record {
-  stay = stay_fits shape.longest o.stay (grind (arith, nat_tests, e));
-  values = grind (arith, nat_tests, e);
-}
+offered_fits shape most o e = grind arith
 
 module _ (most : ℕ) where
   abbrev AllFit : Meaning → Type 0
@@ -60,8 +55,7 @@ module _ (most : ℕ) where
   fed_fits None o m fits all = kept_fits (state_of o) m.lead m.run (fits refl) all
 
   closed_fits : (o : Option Refusal) (m : Meaning) (mark : Mark) → AllFit m → AllFit (after o m (record { run = record { shape = m.run.shape; states = m.run.states; mark = mark }; lead = m.lead }))
-  closed_fits (Some r) m mark all = all
-  closed_fits None m mark all = all
+  closed_fits o m mark all = grind arith
 
   stepped_fits : (s : Step) (m : Meaning) → AllFit m → AllFit (stepped most s m)
   stepped_fits (feeds free need o) m all =

@@ -49,22 +49,13 @@ fold_cons f told (j ∷ js) = ap (λ x. f j ∷ x) (fold_cons f told js)
 
 -- which numbers those are
 toured_among : (begun ended : Bool) (js : List ℕ) (j : ℕ) → Among j (tour_at begun ended (λ ks. 0 ∷ ks) [] js) → ((begun ≡ true) × (j ≡ 0)) ⊎ ((ended ≡ false) × Among j js)
-toured_among true true js j (inl e) = inl (refl, e)
-toured_among true true js j (inr m) = absurd m
-toured_among true false js j (inl e) = inl (refl, e)
-toured_among true false js j (inr m) = inr (refl, m)
-toured_among false true js j m = absurd m
-toured_among false false js j m = inr (refl, m)
+toured_among begun ended js j h = grind arith
 
 first_among : (begun ended : Bool) (js : List ℕ) → begun ≡ true → Among 0 (tour_at begun ended (λ ks. 0 ∷ ks) [] js)
-first_among true true js h = inl refl
-first_among true false js h = inl refl
-first_among false ended js h = absurd (false≢true h)
+first_among begun ended js h = grind arith
 
 later_among : (begun ended : Bool) (js : List ℕ) (j : ℕ) → ended ≡ false → Among j js → Among j (tour_at begun ended (λ ks. 0 ∷ ks) [] js)
-later_among begun true js j h m = absurd (true≢false h)
-later_among true false js j h m = inr m
-later_among false false js j h m = m
+later_among begun ended js j h m = grind arith
 
 toured_rising : (begun ended : Bool) (js : List ℕ) → Rising js → Rising (tour_at begun ended (λ ks. 0 ∷ ks) [] (map suc js))
 toured_rising true true js h = (λ k m. absurd m, tt)
@@ -101,12 +92,10 @@ module _ (mark : Mark) (a b : ℕ) (s : State) (r : List State) (past : within m
   seen_later j stays seen = moment_later seen.0 j stays seen.1 seen.2 seen.3
 
 ends_later : (mark : Mark) (b t : ℕ) (s : State) (r : List State) (j : ℕ) → t ≤ b → s.stay < t → Owns mark (t - s.stay) r j → within mark b s r ≡ false
-ends_later mark b t s [] j low past o = absurd o
-ends_later mark b t s (n ∷ r) j low past o = or_from (leb b s.stay) _ (lt-leb b s.stay (omega arith)) (and_right (endures mark) false refl)
+ends_later mark b t s r j low past o = grind arith
 
 seen_rest : (mark : Mark) (a b : ℕ) (s : State) (r : List State) (j : ℕ) → Seen mark a b (s ∷ r) (suc j) → (within mark b s r ≡ false) × Seen mark (a - s.stay) (b - s.stay) r j
-seen_rest mark a b s r j (t, low, high, o) =
-    (ends_later mark b t s r j high o.0 o.1, (t - s.stay, omega arith, omega arith, o.1))
+seen_rest mark a b s r j h = grind arith
 
 places_seen : (mark : Mark) (a b : ℕ) → a ≤ b → (run : List State) → AllByRecursion (λ s. 1 ≤ s.stay) run → (j : ℕ) → Among j (places mark a b run) → Seen mark a b run j
 places_seen mark a b order [] stays j m = absurd m

@@ -9,10 +9,7 @@ use Rattle.verdicts.specs.Tours.{tour_at, within}
 use Rattle.verdicts.proofs.VisitedStates.{whole_from}
 
 whole_toured : (begun ended told : Bool) → tour_at begun ended (λ x. x) true told ≡ (ended || told)
-whole_toured true true told = refl
-whole_toured true false told = refl
-whole_toured false true told = refl
-whole_toured false false told = refl
+whole_toured begun ended told = grind arith
 
 whole_owned : (mark : Mark) (a b : ℕ) (run : List State) → whole_from mark a b run ≡ true → (j : ℕ) × Owns mark b run j
 whole_owned mark a b [] h = absurd (false≢true h)
