@@ -7,7 +7,7 @@ use Rattle.tokens.specs.Tokens.{Tok, Spot, mark, comparator, prefix, stop}
 use Rattle.tokens.specs.declared.words.PrefixSign.{PrefixSign}
 use Rattle.tokens.specs.declared.words.Punctuation.{Punctuation}
 use Rattle.tokens.specs.declared.words.Punctuation.TheVariants.{Open, Close, OpenWindow}
-use Rattle.grammar.specs.Layers.{MeasureText, a_numeral, a_variable, a_unary, a_binary, a_statistic, PropertyText, a_comparison, a_prefix, a_bracket, tighter, a_link, loosest}
+use Rattle.grammar.specs.Layers.{MeasureText, PropertyText, a_comparison, a_prefix, a_bracket, tighter, a_link, loosest}
 use Rattle.grammar.specs.Reading.{Outcome, Reader, first, is_mark, compared, comparison, change_comparison, prefix_sign, prefixed_by, bracketed_by, operand_at, sign_at}
 use Rattle.grammar.specs.Steps.{Rules, Step, plain, bringing, nesting, leading, left_steps, measure_steps, property_steps}
 use Rattle.grammar.specs.Trees.{MeasureTree, Lead, PropertyTree, compare, prefixed, bracketed}

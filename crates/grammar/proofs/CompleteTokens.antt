@@ -4,12 +4,12 @@ use Rattle.tokens.specs.Tokens.{Tok, Spot, mark, numeral}
 use Rattle.tokens.specs.declared.words.ConnectiveSign.{ConnectiveSign}
 use Rattle.tokens.specs.declared.words.PrefixSign.{PrefixSign}
 use Rattle.tokens.specs.declared.words.Punctuation.{Punctuation}
-use Rattle.tokens.specs.declared.words.Punctuation.TheVariants.{Open, Close, OpenWindow, CloseWindow, Comma}
+use Rattle.tokens.specs.declared.words.Punctuation.TheVariants.{Open, OpenWindow, CloseWindow, Comma}
 use Rattle.tokens.specs.declared.words.Sign.{Sign}
 use Rattle.tokens.specs.declared.words.Sign.TheVariants.{Unsigned, Plus, Minus}
 use Rattle.grammar.specs.Faults.{broken_by}
 use Rattle.grammar.specs.Layers.{LeadText}
-use Rattle.grammar.specs.Reading.{Outcome, got, Reader, and_then, first, refuse, is_mark, bring, punctuation, opening, signed_numeral, window_numeral, index_numeral, first_moment, last_moment, index_by, window, lead, link}
+use Rattle.grammar.specs.Reading.{Outcome, got, Reader, and_then, first, is_mark, bring, punctuation, opening, signed_numeral, window_numeral, index_numeral, first_moment, last_moment, index_by, window, lead, link}
 use Rattle.grammar.specs.Steps.{Rules, Step, unless, or_else, plain, bringing, nesting, limited, window_steps}
 use Rattle.grammar.specs.Trees.{Lead, skipping, Link}
 use Rattle.grammar.proofs.Keeping.{kept, left_for, none_or, unless_none}

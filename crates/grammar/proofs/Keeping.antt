@@ -1,9 +1,8 @@
 -- Which rule a step breaks, by the tests that a reader makes: of a token that brings nothing its own rule, else also whether there is room for its part and its nesting.
-use Rattle.std.proofs.Common.{◌≡◌, ℕ, zero, suc, ◌+◌, Bool, true, false, ◌&&◌, ltb, leb, List, ◌∷◌, Some, None, Option, sym, refl, ap, ◌∙◌, ap₂, suc-add, zero-add, arith}
-use Rattle.std.proofs.lemmas.Bool.{and_parts}
-use lib.Dec.{leb-zero, leb-suc-suc}
+use Rattle.std.proofs.Common.{◌≡◌, ℕ, suc, ◌+◌, Bool, true, ◌&&◌, ltb, leb, List, ◌∷◌, None, Option, ap, ◌∙◌, ap₂, arith}
+use lib.Dec.{leb-zero}
 use Rattle.tokens.specs.Tokens.{Tok, Spot}
-use Rattle.grammar.specs.Faults.{brought_by, broken_by, fits}
+use Rattle.grammar.specs.Faults.{brought_by, broken_by}
 use Rattle.grammar.specs.Steps.{Rules, Step, unless, or_else, plain, bringing, nesting, limited}
 use Rattle.grammar.proofs.Spelling.{Spelled, none, more}
 

@@ -1,22 +1,20 @@
 -- A tree of which no token breaks a rule is a formula within the limits.
-use Rattle.std.proofs.Common.{◌≡◌, ℕ, zero, suc, ◌<◌, ◌≤◌, Bool, true, false, ◌&&◌, ltb, leb, List, [], ◌∷◌, ◌++◌, nat_abs, is_some, Some, None, Option, unwrap_or, sym, refl, ap, ◌∙◌, arith, leb-true}
+use Rattle.std.proofs.Common.{◌≡◌, ℕ, suc, ◌<◌, ◌≤◌, Bool, true, false, ltb, leb, List, [], ◌∷◌, ◌++◌, nat_abs, is_some, Some, None, Option, unwrap_or, sym, refl, ap, ◌∙◌, arith, leb-true}
 use Rattle.std.proofs.lemmas.Bool.{and_from}
 use Rattle.std.specs.List.{AllByRecursion}
-use Rattle.std.proofs.lemmas.Bool.Decides.{nat_tests}
 use Rattle.parts.specs.Limits.{lawful, lawful_measure, lawful_prefix, lawful_connective, lawful_window}
 use Rattle.parts.specs.declared.kinds.Quantity.{Quantity}
 use Rattle.parts.specs.declared.kinds.Quantity.TheVariants.{Value, Change}
 use Rattle.tokens.specs.Tokens.{Tok}
 use Rattle.tokens.specs.declared.words.Sign.{Sign}
-use Rattle.tokens.specs.declared.words.Sign.TheVariants.{Unsigned, Plus, Minus}
 use Rattle.grammar.specs.Faults.{first_broken, broken_by, brought_by}
 use Rattle.grammar.specs.Layers.{MeasureText, a_numeral, a_variable, a_unary, a_binary, a_statistic, PropertyText, a_comparison, a_prefix, a_bracket, tighter, a_link}
 use Rattle.grammar.specs.Meanings.{Columns, signed, measure_of, prefix_of, connective_of, property_of, window}
 use Rattle.grammar.specs.Rules.{rules_for}
-use Rattle.grammar.specs.Steps.{Rules, Step, unless, measure_steps, window_steps, lead_steps, link_steps, left_steps, property_steps}
-use Rattle.grammar.specs.Trees.{MeasureTree, Lead, negation, next, skipping, eventually, always, Link, and, or, implies, iff, until, PropertyTree}
+use Rattle.grammar.specs.Steps.{Rules, Step, measure_steps, window_steps, lead_steps, link_steps, left_steps, property_steps}
+use Rattle.grammar.specs.Trees.{MeasureTree, Lead, Link, PropertyTree}
 use Rattle.grammar.proofs.FirstBroken.{first_broken_step}
-use Rattle.grammar.proofs.Keeping.{kept, none_or, unless_none}
+use Rattle.grammar.proofs.Keeping.{kept, unless_none}
 
 -- what a step keeps that breaks no rule
 abbrev pub Keeps : Rules → Step → Type 0

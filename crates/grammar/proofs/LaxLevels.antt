@@ -3,7 +3,7 @@ use Rattle.std.proofs.Common.{◌≡◌, ℕ, zero, suc, ◌+◌, ◌≤◌, Boo
 use Rattle.tokens.specs.Tokens.{Tok, Spot, is_stop}
 use Rattle.tokens.specs.declared.words.ConnectiveSign.{ConnectiveSign}
 use Rattle.grammar.specs.Layers.{loosest}
-use Rattle.grammar.specs.Reading.{Outcome, got, fault, Reader, and_then, first, rest, refuse, operand_at, sign_at, link, linked, links, tier, operand, reading}
+use Rattle.grammar.specs.Reading.{Outcome, got, fault, Reader, and_then, first, refuse, operand_at, sign_at, link, linked, links, tier, operand, reading}
 use Rattle.grammar.specs.Steps.{Rules}
 use Rattle.grammar.specs.Trees.{PropertyTree, joined}
 use Rattle.grammar.proofs.CompleteLevels.{links_end}

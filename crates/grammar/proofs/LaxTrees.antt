@@ -1,5 +1,5 @@
 -- No tree breaks a lax rule, if its parts and its nesting have room.
-use Rattle.std.proofs.Common.{◌≡◌, ℕ, suc, ◌+◌, ◌≤◌, Bool, true, false, cond, List, [], ◌∷◌, ◌++◌, length, None, sym, refl, ap, ◌∙◌, arith, le-leb}
+use Rattle.std.proofs.Common.{◌≡◌, ℕ, suc, ◌+◌, ◌≤◌, List, [], ◌∷◌, ◌++◌, length, None, sym, refl, ap, ◌∙◌, arith, le-leb}
 use lib.ListN.{length-map}
 use Rattle.parts.specs.declared.kinds.Quantity.{Quantity}
 use Rattle.parts.specs.declared.kinds.Quantity.TheVariants.{Value, Change}

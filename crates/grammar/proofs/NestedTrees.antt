@@ -1,19 +1,18 @@
 -- A formula can be written as deeply nested as a tree of it is, or less.
-use Rattle.std.proofs.Common.{◌≡◌, ℕ, suc, pred, ◌+◌, ◌≤◌, max, true, leb, List, ◌∷◌, ◌++◌, refl, ap, ◌∙◌, arith}
+use Rattle.std.proofs.Common.{◌≡◌, ℕ, suc, pred, ◌+◌, ◌≤◌, max, true, leb, List, ◌∷◌, ◌++◌, ap, ◌∙◌, arith}
 use Rattle.std.specs.List.{AllByRecursion}
 use Rattle.std.proofs.lemmas.Bool.Decides.{nat_tests}
 use Rattle.parts.specs.Formulas as formula
 use Rattle.parts.specs.Formulas.{Property}
 use Rattle.parts.specs.Nesting.{measure_nesting, left_nesting, connective_level, bracket_nesting, nesting_at}
 use Rattle.parts.specs.declared.kinds.Connective.{Connective}
-use Rattle.parts.specs.declared.kinds.Connective.TheVariants as connectives
 use Rattle.parts.specs.declared.kinds.Quantity.{Quantity}
 use Rattle.parts.specs.declared.kinds.Quantity.TheVariants.{Value, Change}
 use Rattle.tokens.specs.Tokens.{Tok}
 use Rattle.grammar.specs.Layers.{PropertyText, a_comparison, a_prefix, a_bracket, tighter, a_link, link_level}
 use Rattle.grammar.specs.Meanings.{Columns, measure_of, connective_of, property_of}
 use Rattle.grammar.specs.Steps.{Rules, Step, measure_steps, window_steps, lead_steps, link_steps, left_steps, property_steps}
-use Rattle.grammar.specs.Trees.{MeasureTree, numeral, variable, unary, binary, over, Lead, negation, next, skipping, eventually, always, Link, and, or, implies, iff, until, PropertyTree, joined}
+use Rattle.grammar.specs.Trees.{MeasureTree, numeral, variable, unary, binary, over, Lead, Link, PropertyTree, joined}
 use Rattle.grammar.proofs.LawfulTrees.{Keeps, all_split}
 
 -- a formula that may bind more loosely takes no deeper nesting, and brackets take one more

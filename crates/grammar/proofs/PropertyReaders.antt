@@ -1,5 +1,5 @@
 -- The readers of comparisons, operands, levels and formulas are right.
-use Rattle.std.proofs.Common.{◌≡◌, ℕ, zero, suc, pred, ◌+◌, Bool, true, false, ◌&&◌, ltb, leb, List, [], ◌∷◌, ◌++◌, length, Some, None, Option, sym, refl, ap, ◌∙◌, subst, append_assoc, append-nil, zero-add, arith, ltb-true}
+use Rattle.std.proofs.Common.{◌≡◌, ℕ, zero, suc, pred, ◌+◌, true, false, ◌&&◌, ltb, leb, List, [], ◌∷◌, ◌++◌, length, Some, None, Option, sym, refl, ap, ◌∙◌, subst, append_assoc, append-nil, zero-add, arith, ltb-true}
 use Rattle.parts.specs.declared.kinds.Comparator.{Comparator}
 use Rattle.parts.specs.declared.kinds.Comparator.TheVariants.{Less}
 use Rattle.parts.specs.declared.kinds.Quantity.{Quantity}
@@ -10,7 +10,7 @@ use Rattle.tokens.specs.declared.words.PrefixSign.{PrefixSign}
 use Rattle.tokens.specs.declared.words.Punctuation.TheVariants.{Open, Close}
 use Rattle.grammar.specs.Layers.{PropertyText, a_comparison, a_prefix, a_bracket, tighter, a_link, loosest}
 use Rattle.grammar.specs.Reading.{got, Reader, and_then, refuse, bring, comparator_of, compared_by, compared, comparison, change_comparison, prefix_sign, prefixed_by, bracketed_by, operand_at, sign_at, sign_level, linked, links, tier, operand, formula}
-use Rattle.grammar.specs.Steps.{Rules, Step, unless, plain, bringing, nesting, leading, link_steps, left_steps, measure_steps, property_steps}
+use Rattle.grammar.specs.Steps.{Rules, Step, plain, bringing, nesting, leading, link_steps, left_steps, measure_steps, property_steps}
 use Rattle.grammar.specs.Trees.{MeasureTree, Lead, Link, PropertyTree, compare, prefixed, joined, bracketed}
 use Rattle.grammar.proofs.Keeping.{Room, leb_left, plain_judged}
 use Rattle.grammar.proofs.MeasureReaders.{AMeasure, some_measure, some_measure_is, measure_fine}

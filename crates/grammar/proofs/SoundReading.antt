@@ -5,7 +5,7 @@ use Rattle.std.specs.List.{AllByRecursion}
 use Rattle.tokens.specs.Tokens.{Tok, Spot, stop, is_stop}
 use Rattle.grammar.specs.Laws.{toks, ended, steps, Reads, IsToken}
 use Rattle.grammar.specs.Layers.{PropertyText, loosest}
-use Rattle.grammar.specs.Reading.{Outcome, got, fault, and_then, refuse, first, formula, reading}
+use Rattle.grammar.specs.Reading.{Outcome, got, refuse, first, reading}
 use Rattle.grammar.specs.Steps.{Rules, property_steps}
 use Rattle.grammar.specs.Trees.{PropertyTree}
 use Rattle.grammar.proofs.FirstBroken.{none_broken}
@@ -14,7 +14,6 @@ use Rattle.grammar.proofs.PropertyReaders.{AProperty, properties, formula_fine}
 use Rattle.grammar.proofs.Spelling.{Spelled, step_tokens, consumed, consumed_then, consumed_tokens}
 use Rattle.grammar.proofs.Spelling as spelling
 use Rattle.grammar.proofs.TextTokens.{Tokens, more, property_tokens, property_has_tokens}
-use Rattle.grammar.proofs.TokenKinds.{stop_is}
 
 pub reading_right : (rules : Rules) (s : List Spot) → Right rules (properties rules 0 loosest) 0 s (reading rules s)
 reading_right rules s =

@@ -1,12 +1,12 @@
 -- Which token a test of a reader has found.
-use Rattle.std.proofs.Common.{◌≡◌, ℕ, zero, suc, Bool, true, false, cond, eqb, Some, None, Option, sym, refl, ap, ◌∙◌, arith, eqb-true}
+use Rattle.std.proofs.Common.{◌≡◌, ℕ, zero, suc, true, eqb, Some, Option, sym, ap, ◌∙◌, arith, eqb-true}
 use Rattle.parts.specs.declared.kinds.Comparator.{Comparator}
-use Rattle.tokens.specs.Tokens.{Tok, mark, change, comparator, unary, binary, statistic, prefix, connective, numeral, variable, stray, stop, is_stop}
+use Rattle.tokens.specs.Tokens.{Tok, mark, comparator, connective, numeral, stop, is_stop}
 use Rattle.tokens.specs.declared.words.ConnectiveSign.{ConnectiveSign}
 use Rattle.tokens.specs.declared.words.Punctuation.{Punctuation}
 use Rattle.tokens.specs.declared.words.Punctuation.TheVariants.{Open, Close, OpenWindow, CloseWindow, Comma}
 use Rattle.tokens.specs.declared.words.Sign.{Sign}
-use Rattle.tokens.specs.declared.words.Sign.TheVariants.{Unsigned, Plus, Minus}
+use Rattle.tokens.specs.declared.words.Sign.TheVariants.{Unsigned, Minus}
 use Rattle.grammar.specs.Layers.{LeadText}
 use Rattle.grammar.specs.Reading.{code, is_mark, signed_numeral, window_numeral, index_numeral, comparator_of, sign_at, at_level, sign_level}
 use Rattle.grammar.specs.Trees.{skipping}

@@ -1,10 +1,9 @@
 -- A known number is within its bound. Assumes nothing.
-use Rattle.std.proofs.Common.{◌≡◌, ℕ, zero, suc, ◌+◌, ◌-◌, ◌*◌, ◌≤◌, Bool, true, false, cond, List, [], ◌∷◌, length, ℤ, pos, negsuc, ◌+ℤ◌, ◌*ℤ◌, neg_ℤ, nat_abs, Some, None, Option, refl, subst, mul-le-mul_right, suc-mul, mul-le-mul, arith}
+use Rattle.std.proofs.Common.{◌≡◌, ℕ, zero, suc, ◌+◌, ◌-◌, ◌*◌, ◌≤◌, Bool, true, false, cond, List, [], ◌∷◌, length, ℤ, ◌+ℤ◌, ◌*ℤ◌, neg_ℤ, nat_abs, Some, None, Option, subst, mul-le-mul_right, suc-mul, mul-le-mul, arith}
 use lib.Signed.{lt_z}
 use Rattle.std.specs.List.{slice_get, AllByRecursion}
 use Rattle.std.specs.Int.{int_signum}
 use Rattle.std.specs.Option.{option_map}
-use Rattle.std.proofs.lemmas.Int.{ints}
 use Rattle.std.proofs.lemmas.Bool.{and_parts, leb-true}
 use Rattle.parts.specs.Bounds.{binary_bound, bound_of, most_bound, most_states, statistic_bound, unary_bound}
 use Rattle.parts.specs.Formulas.{Measure, numeral, variable, unary, binary, over}
@@ -14,7 +13,6 @@ use Rattle.parts.specs.declared.kinds.Binary.TheVariants.{Add, Subtract, Multipl
 use Rattle.parts.specs.declared.kinds.Statistic.{Statistic}
 use Rattle.parts.specs.declared.kinds.Statistic.TheVariants.{Min, Max, Sum, Count}
 use Rattle.parts.specs.declared.kinds.Unary.{Unary}
-use Rattle.parts.specs.declared.kinds.Unary.TheVariants.{Abs, Sign}
 use Rattle.runs.specs.Runs.{State, value_at}
 use Rattle.runs.specs.declared.shape.Mark.{Mark}
 use Rattle.verdicts.proofs.LawfulFormulas.{binary_parts, over_parts, unary_parts}

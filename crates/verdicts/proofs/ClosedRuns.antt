@@ -1,5 +1,5 @@
 -- On a closed run the verdict of a formula is true where the formula holds and false where it does not. Assumes nothing.
-use Rattle.std.proofs.Common.{◌≡◌, ℕ, ◌<◌, ◌≤◌, Bool, true, false, cond, List, [], ◌∷◌, length, get_or, drop, ℤ, pos, ◌-ℤ◌, ◌*ℤ◌, Some, None, Option, sym, refl, ap, ◌∙◌, subst, ap₂, inl, inr, arith}
+use Rattle.std.proofs.Common.{◌≡◌, ℕ, ◌<◌, ◌≤◌, Bool, true, false, cond, List, [], ◌∷◌, length, get_or, drop, ℤ, pos, ◌-ℤ◌, ◌*ℤ◌, Some, None, Option, sym, refl, ap, ◌∙◌, subst, ap₂, arith}
 use mathlib.Core.List.{foldr}
 use Rattle.std.specs.Option.{option_map}
 use Rattle.std.specs.List.{AllByRecursion}
@@ -21,7 +21,6 @@ use Rattle.runs.specs.declared.shape.Mark.TheVariants.{Closed}
 use Rattle.runs.specs.declared.shape.Shape.{Shape}
 use Rattle.verdicts.proofs.LawfulFormulas.{binary_parts, compare_parts, joined_parts, over_parts, prefixed_parts, unary_parts, window_order}
 use Rattle.verdicts.proofs.RisingNumbers.{same_rising}
-use Rattle.verdicts.proofs.VerdictOrder.{false≢undecided, true≢false, true≢undecided}
 use Rattle.verdicts.proofs.VisitedStates.{places, places_in_order, tour_folds}
 use Rattle.verdicts.proofs.WholeWindows.{closed_whole}
 use Rattle.verdicts.specs.Arithmetic.{compares, of_many, of_one, of_two}

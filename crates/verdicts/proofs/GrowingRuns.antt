@@ -1,6 +1,6 @@
 -- A decided verdict and a known number stay, whatever states follow and whether or not the run is then closed. Assumes nothing.
-use Rattle.std.proofs.Common.{◌≡◌, ℕ, zero, suc, ◌-◌, ◌≤◌, Bool, true, false, cond, ◌||◌, leb, List, [], ◌∷◌, ◌++◌, drop, ℤ, pos, ◌-ℤ◌, ◌*ℤ◌, Some, None, Option, sym, refl, ap, ◌∙◌, inl, inr, arith}
-use Rattle.std.proofs.lemmas.Bool.{and_right, false≢true, or_cases, or_left}
+use Rattle.std.proofs.Common.{◌≡◌, ℕ, zero, suc, ◌-◌, ◌≤◌, Bool, true, false, cond, List, [], ◌∷◌, ◌++◌, drop, ℤ, pos, ◌-ℤ◌, ◌*ℤ◌, Some, None, Option, refl, ◌∙◌, arith}
+use Rattle.std.proofs.lemmas.Bool.{false≢true}
 use Rattle.parts.specs.Formulas.{Measure, numeral, variable, unary, binary, over, Property, compare, prefixed, joined}
 use Rattle.parts.specs.Limits.{lawful, lawful_measure, lawful_window}
 use Rattle.parts.specs.declared.kinds.Comparator.{Comparator}

@@ -1,6 +1,6 @@
 -- What the limits of a formula say of its parts. Assumes nothing.
-use Rattle.std.proofs.Common.{◌≡◌, ℕ, ◌≤◌, Bool, true, false, not, arith}
-use Rattle.std.proofs.lemmas.Bool.{and_parts, leb-true, not-true}
+use Rattle.std.proofs.Common.{◌≡◌, ℕ, ◌≤◌, Bool, true, false, arith}
+use Rattle.std.proofs.lemmas.Bool.{and_parts, leb-true}
 use Rattle.parts.specs.Bounds.{bound_kept}
 use Rattle.parts.specs.Formulas.{Measure, unary, binary, over, Property, compare, prefixed, joined}
 use Rattle.parts.specs.Limits.{lawful, lawful_connective, lawful_measure, lawful_prefix, lawful_window}

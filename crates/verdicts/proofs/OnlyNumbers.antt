@@ -1,5 +1,5 @@
 -- Numbers that are known and the only ones: of computations, and along some states. Assumes nothing.
-use Rattle.std.proofs.Common.{◌≡◌, ℕ, List, [], ◌∷◌, ℤ, Some, Option, refl, ap, ◌∙◌, ap₂, inl, inr, arith}
+use Rattle.std.proofs.Common.{◌≡◌, ℕ, List, [], ◌∷◌, ℤ, Some, Option, refl, inl, inr, arith}
 use mathlib.Core.List.{foldr}
 use Rattle.std.specs.Option.{option_map}
 use Rattle.verdicts.specs.Truth.{Pairwise}

@@ -17,7 +17,6 @@ use Rattle.runs.specs.declared.shape.Mark.{Mark}
 use Rattle.runs.specs.declared.shape.Shape.{Shape}
 use Rattle.verdicts.proofs.ClosedRuns.{two_valued}
 use Rattle.verdicts.proofs.LawfulFormulas.{binary_parts, compare_parts, joined_parts, over_parts, prefixed_parts, unary_parts}
-use Rattle.verdicts.proofs.VerdictOrder.{false≢undecided, true≢undecided}
 use Rattle.verdicts.proofs.OwnedMoments.{not_within}
 use Rattle.verdicts.specs.Arithmetic.{compares, of_many, of_one, of_two}
 use Rattle.verdicts.specs.Begins.{Fits}

@@ -1,5 +1,5 @@
 -- The three verdicts are apart; and lesser and greater: order of operands, grouping, and one over the other. Assumes nothing.
-use Rattle.std.proofs.Common.{◌≡◌, ℕ, refl, arith}
+use Rattle.std.proofs.Common.{◌≡◌, ℕ, arith}
 use Rattle.verdicts.specs.Laws.{TablesByRank}
 use Rattle.verdicts.specs.Tables.{greater, lesser}
 use Rattle.verdicts.specs.declared.verdict.Verdict.{Verdict}

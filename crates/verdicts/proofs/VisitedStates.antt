@@ -1,10 +1,10 @@
 -- A tour joins the states to which some moment of its window belongs, each once, in order; and it is a fold over them. Assumes nothing.
 use Rattle.std.proofs.Common.{◌≡◌, ℕ, zero, suc, ◌+◌, ◌-◌, ◌<◌, ◌≤◌, Bool, true, false, cond, leb, ◌⊎◌, List, [], ◌∷◌, map, drop, sym, refl, ap, ◌∙◌, inl, inr, arith}
 use mathlib.Core.List.{foldr}
-use Rattle.std.proofs.lemmas.Bool.{and_right, false≢true, le-leb, lt-leb, or_from, or_left, true≢false}
+use Rattle.std.proofs.lemmas.Bool.{le-leb, or_left}
 use Rattle.std.specs.List.{AllByRecursion}
 use Rattle.parts.specs.declared.kinds.Window.{Window}
-use Rattle.runs.specs.Runs.{State, endures}
+use Rattle.runs.specs.Runs.{State}
 use Rattle.runs.specs.declared.shape.Mark.{Mark}
 use Rattle.verdicts.proofs.OwnedMoments.{Owns, belongs_owns, not_within, owns_belongs, within_order}
 use Rattle.verdicts.proofs.RisingNumbers.{among_suc, rising_suc, suc_among}
