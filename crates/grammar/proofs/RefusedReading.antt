@@ -5,6 +5,7 @@ use lib.ListN.{length-map}
 use lib.Seq.{take-append_seam, drop-append_seam}
 use Rattle.std.specs.List.{slice_get}
 use Rattle.tokens.specs.Tokens.{Tok, Spot}
+use Rattle.parts.proofs.NodesOfParts.{nth_at}
 use Rattle.grammar.specs.Faults.{first_broken}
 use Rattle.grammar.specs.Laws.{toks, steps, Unbroken, Breaks}
 use Rattle.grammar.specs.Layers.{PropertyText, loosest}
@@ -17,13 +18,6 @@ use Rattle.grammar.proofs.PropertyReaders.{AProperty, properties}
 use Rattle.grammar.proofs.SoundReading.{reading_right}
 use Rattle.grammar.proofs.Spelling.{Spelled, step_tokens, consumed, consumed_then, consumed_tokens}
 use Rattle.grammar.proofs.TextTokens.{property_tokens}
-
-nth_seam : (xs ys : List Step) (x : Step) → slice_get (xs ++ (x ∷ ys)) (length xs) ≡ Some x
-nth_seam [] ys x = refl
-nth_seam (y ∷ xs) ys x = nth_seam xs ys x
-
-same : (x y : Step) → Some x ≡ Some y → x ≡ y
-same x y e = cc
 
 module _ {rules : Rules} where
   consumed_length : {n n' : ℕ} {s s' : List Spot} {xs : List Step} (w : Spelled rules n s xs n' s') → length (consumed w) ≡ length xs
@@ -52,7 +46,7 @@ module _ {rules : Rules} where
   breaks_there h k w not_two cannot = absurd (not_two refl)
   breaks_there {number} {xs} {p} h k w not_two (broken {x} {left} ne b q) =
       let size : length (toks (consumed w)) ≡ length xs = length-map (consumed w) (λ t. t.tok) ∙ consumed_length w in
-      let there : slice_get (steps rules p) (length (toks (consumed w))) ≡ Some x = ap (λ (i : ℕ). slice_get (steps rules p) i) size ∙ ap (λ (ys : List Step). slice_get ys (length xs)) k ∙ nth_seam xs left x in (
+      let there : slice_get (steps rules p) (length (toks (consumed w))) ≡ Some x = ap (λ (i : ℕ). slice_get (steps rules p) i) size ∙ ap (λ (ys : List Step). slice_get ys (length xs)) k ∙ nth_at xs left x in (
         x.back,
         place_of q w,
         record {
@@ -60,7 +54,7 @@ module _ {rules : Rules} where
           p = p;
           text = text_of (x ∷ left) h k w;
           broken = ap (λ (ys : List Step). first_broken rules 0 ys 0) k ∙ broken_behind x left 0 w b ∙ ap (λ (i : ℕ). Some (number, i)) (zero-add (length xs) ∙ sym size);
-          placed = λ y e. ap (λ (z : Step). z.back) (same y x (sym e ∙ there));
+          placed = λ y e. let both : Some y ≡ Some x = sym e ∙ there in cc;
         },
       )
 

@@ -11,21 +11,6 @@ use Rattle.grammar.specs.Layers.{LeadText}
 use Rattle.grammar.specs.Reading.{code, is_mark, signed_numeral, window_numeral, index_numeral, comparator_of, sign_at, at_level, sign_level}
 use Rattle.grammar.specs.Trees.{skipping}
 
--- the mark with this code
-decoded : ℕ → Punctuation
-decoded zero = Open
-decoded (suc zero) = Close
-decoded (suc (suc zero)) = OpenWindow
-decoded (suc (suc (suc zero))) = CloseWindow
-decoded (suc (suc (suc (suc n)))) = Comma
-
-decoded_code : (p : Punctuation) → decoded (code p) ≡ p
-unfolding decoded
-decoded_code p = grind arith
-
-same_mark : (p q : Punctuation) → eqb (code p) (code q) ≡ true → q ≡ p
-same_mark p q e = sym (decoded_code q) ∙ ap decoded (sym (eqb-true (code p) (code q) e)) ∙ decoded_code p
-
 pub mark_is : (p : Punctuation) (t : Tok) → is_mark p t ≡ true → t ≡ mark p
 mark_is p t e = grind arith
 
@@ -41,18 +26,9 @@ comparator_is t c e = grind arith
 pub window_numeral_is : (o : Option (Sign × ℕ)) (a : ℕ) → window_numeral o ≡ Some a → o ≡ Some (Unsigned, a)
 window_numeral_is o a e = grind arith
 
-index_numeral_same : (o : Option (Sign × ℕ)) (k : Sign × ℕ) → index_numeral o ≡ Some k → o ≡ Some k
-index_numeral_same o k e = grind arith
-
-no_minus : (o : Option (Sign × ℕ)) (m : ℕ) → index_numeral o ≡ Some (Minus, m) → ⊥
-no_minus o m e = grind arith
-
 -- the index of X has no minus
 pub index_numeral_is : (o : Option (Sign × ℕ)) (k : Sign × ℕ) → index_numeral o ≡ Some k → (o ≡ Some k) × LeadText (skipping k.0 k.1)
 index_numeral_is o k e = grind arith
-
-at_level_is : (level : ℕ) (x y : ConnectiveSign) → at_level level x ≡ Some y → (x ≡ y) × (sign_level y ≡ level)
-at_level_is level x y e = grind arith
 
 pub sign_is : (level : ℕ) (t : Tok) (x : ConnectiveSign) → sign_at level t ≡ Some x → (t ≡ connective x) × (sign_level x ≡ level)
 sign_is level t x e = grind arith

@@ -30,9 +30,6 @@ magnitude_opposite x = grind arith
 magnitude_product : (x y : ℤ) → nat_abs (x *ℤ y) ≡ nat_abs x * nat_abs y
 magnitude_product x y = grind arith
 
-magnitude_sign : (x : ℤ) → nat_abs (int_signum x) ≤ 1
-magnitude_sign x = grind arith
-
 -- a number that is within a bound, where it is known; and at most so many of them
 abbrev Within : ℕ → Option ℤ → Type 0
 Within bound None = Unit {0}

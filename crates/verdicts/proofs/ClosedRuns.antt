@@ -37,12 +37,6 @@ use Rattle.verdicts.proofs.ToldVerdicts.{Told, every_told, right, some_told, tol
 use Rattle.verdicts.proofs.OnlyNumbers.{Only, all_told, only_both, only_mapped}
 
 -- whether the last state endures is all that moments ask of a mark
-belongs_as : (mark other : Mark) → endures other ≡ true → {states : List State} {i t j : ℕ} → Belongs mark states i t j → Belongs other states i t j
-belongs_as mark other closed b = grind arith
-
-visits_as : (mark other : Mark) → endures other ≡ true → {w : Window} {run : List State} {j : ℕ} → Visits mark w run j → Visits other w run j
-visits_as mark other closed v = grind arith
-
 in_order_as : (mark : Mark) → endures mark ≡ true → {w : Window} {run : List State} {js : List ℕ} → InOrder mark w run js → InOrder Closed w run js
 in_order_as mark closed order = grind arith
 
@@ -60,9 +54,6 @@ further_told mark closed P said k run each = by_rest (drop k run) refl
     by_rest : (t : List State) → t ≡ drop k run → Told ((k < length run) × P (drop k run)) (further mark said t)
     by_rest [] e = rw closed (wrong (λ h. omega (arith, h.0, ap length e, length-drop k run)))
     by_rest (s ∷ r) e = told_as (λ x. (omega (arith, ap length e, length-drop k run), subst P e x)) (λ h. subst P (sym e) h.1) (each (s ∷ r) e (omega arith))
-
-same_some : (m n : ℕ) → Some m ≡ Some n → m ≡ n
-same_some m n e = cc
 
 module _ (shape : Shape) (largest : ℕ) (mark : Mark) (closed : endures mark ≡ true) where
   fits_stays : (run : List State) → AllByRecursion (Fits shape) run → AllByRecursion (λ s. 1 ≤ s.stay) run
@@ -127,7 +118,7 @@ module _ (shape : Shape) (largest : ℕ) (mark : Mark) (closed : endures mark �
         times o.3,
         (o.1, o.2, o.5, o.6, refl),
         (o.3, o.7, refl),
-        ap (λ k. compares c (o.1 -ℤ o.2) (o.3 *ℤ pos k)) (same_some s.stay o.4 o.8) ∙ o.9,
+        let same : s.stay ≡ o.4 = cc in ap (λ k. compares c (o.1 -ℤ o.2) (o.3 *ℤ pos k)) same ∙ o.9,
       ))
       (compared_told (λ z. (x : ℤ) × (y : ℤ) × Number m (t ∷ r) x × Number m run y × (z ≡ x -ℤ y)) (λ z. (x : ℤ) × Number n run x × (z ≡ times x)) _ _ c
       (only_both ◌-ℤ◌ (Number m (t ∷ r)) (Number m run) _ _ (number_told false m parts.0 (t ∷ r) fits.1 (omega arith)) (number_told false m parts.0 run fits (omega arith)))

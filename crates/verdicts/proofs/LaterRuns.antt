@@ -35,9 +35,6 @@ verdicts_last width largest p h most m steps decided =
 pub lawful_fits : (shape : Shape) (largest : ℕ) (states : List State) → AllByRecursion (Lawful shape largest) states → AllByRecursion (Fits shape) states
 lawful_fits shape largest states lawful = All-weaker (Lawful shape largest) (Fits shape) (λ s l. record { stay = l.stay; values = l.values }) states lawful
 
-stay_fits : (longest : ℕ) (stay : ℤ) → stay_within longest stay ≡ true → IsInRange 1 longest (nat_abs stay)
-stay_fits longest stay h = grind arith
-
 offered_fits : (shape : Shape) (most : ℕ) (o : Offered) → unlawful shape most o ≡ None → Fits shape (state_of o)
 offered_fits shape most o e = grind arith
 

@@ -91,9 +91,6 @@ module _ (mark : Mark) (a b : ℕ) (s : State) (r : List State) (past : within m
   seen_later : (j : ℕ) → AllByRecursion (λ s. 1 ≤ s.stay) r → Seen mark (a - s.stay) (b - s.stay) r j → Seen mark a b (s ∷ r) (suc j)
   seen_later j stays seen = moment_later seen.0 j stays seen.1 seen.2 seen.3
 
-ends_later : (mark : Mark) (b t : ℕ) (s : State) (r : List State) (j : ℕ) → t ≤ b → s.stay < t → Owns mark (t - s.stay) r j → within mark b s r ≡ false
-ends_later mark b t s r j low past o = grind arith
-
 seen_rest : (mark : Mark) (a b : ℕ) (s : State) (r : List State) (j : ℕ) → Seen mark a b (s ∷ r) (suc j) → (within mark b s r ≡ false) × Seen mark (a - s.stay) (b - s.stay) r j
 seen_rest mark a b s r j h = grind arith
 
