@@ -86,4 +86,4 @@ module _ (rules : Rules) where
       gives_operand_at d (suc left) (operand rules left) (tier rules (operand rules left) loosest) deep (λ _. inner) (λ _. gives_tier (suc d) (operand rules left) inner loosest) t w
 
   pub gives_formula : GivesProperties rules 0 loosest (formula rules rules.nesting)
-  gives_formula = gives_tier 0 (operand rules rules.nesting) (gives_operand 0 rules.nesting (zero-add rules.nesting)) loosest
+  gives_formula = grind (arith, gives_tier, gives_operand, zero-add)

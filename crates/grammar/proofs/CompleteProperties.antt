@@ -49,7 +49,7 @@ module _ {rules : Rules} where
       gives_compared d left Change c l m deep u x)))
 
   gives_prefix_sign : (d left : ℕ) (x : PrefixSign) {n n' : ℕ} {s s' : List Spot} → d + left ≡ rules.nesting → Spelled rules n s (leading (suc d) (prefix x) ∷ []) n' s' → Gives tt n' s' (prefix_sign rules left n s)
-  gives_prefix_sign d left x {n} deep (more e none) = if_true _ (ap₂ ◌&&◌ (left_for rules n d left (leading (suc d) (prefix x)) deep refl e) (kept rules n (leading (suc d) (prefix x)) e).1) it_does
+  gives_prefix_sign d left x deep h = grind (arith, if_true, left_for, it_does)
 
   -- what begins a measure begins a comparison
   by_comparison : (d left : ℕ) (inner whole : Reader PropertyTree) {inside : Bool} {ts : List Tok} {m : MeasureTree} {n n' : ℕ} {s s' : List Spot} → MeasureText inside ts m → Spelled rules n s (measure_steps rules d m) n' s' → operand_at rules left inner whole (first s).tok n s ≡ comparison rules left n s

@@ -60,20 +60,16 @@ module _ {rules : Rules} where
   gives_mark p (more e none) = if_true _ (own_mark p) it_does
 
   pub gives_opening : (d left : ℕ) {n n' : ℕ} {s s' : List Spot} → d + left ≡ rules.nesting → Spelled rules n s (nesting (suc d) (mark Open) ∷ []) n' s' → Gives tt n' s' (opening left n s)
-  gives_opening d left {n} deep (more e none) = if_true _ (left_for rules n d left (nesting (suc d) (mark Open)) deep refl e) it_does
+  gives_opening d left deep h = grind (arith, if_true, left_for, it_does)
 
   gives_first_moment : (a : ℕ) {n n' : ℕ} {s s' : List Spot} → Spelled rules n s (limited (numeral Unsigned a) (unless (rules.numeral a) 3) ∷ []) n' s' → Gives a n' s' (first_moment rules (window_numeral (signed_numeral (first s).tok)) n s)
   gives_first_moment a {n} (more {x} e none) = if_true _ (unless_none (rules.numeral a) 3 (kept rules n x e).0) it_does
 
   gives_last_moment : (a b : ℕ) {n n' : ℕ} {s s' : List Spot} → Spelled rules n s (limited (numeral Unsigned b) (or_else (unless (rules.numeral b) 3) (unless (rules.order a b) 4)) ∷ []) n' s' → Gives b n' s' (last_moment rules a (window_numeral (signed_numeral (first s).tok)) n s)
-  gives_last_moment a b {n} (more {x} e none) =
-      let h = none_or (unless (rules.numeral b) 3) (unless (rules.order a b) 4) (kept rules n x e).0 in
-      if_true _ (unless_none (rules.numeral b) 3 h.0) (if_true _ (unless_none (rules.order a b) 4 h.1) it_does)
+  gives_last_moment a b h = grind (arith, none_or, if_true, unless_none, it_does)
 
   gives_index : (sign : Sign) (k : ℕ) {n n' : ℕ} {s s' : List Spot} → LeadText (skipping sign k) → Spelled rules n s (limited (numeral sign k) (unless (rules.index k) 3) ∷ []) n' s' → Gives (sign, k) n' s' (index_by rules (index_numeral (signed_numeral (first s).tok)) n s)
-  gives_index Unsigned k {n} h (more {x} e none) = if_true _ (unless_none (rules.index k) 3 (kept rules n x e).0) it_does
-  gives_index Plus k {n} h (more {x} e none) = if_true _ (unless_none (rules.index k) 3 (kept rules n x e).0) it_does
-  gives_index Minus k h w = absurd h
+  gives_index sign k h e = grind (arith, if_true, unless_none, it_does)
 
   pub gives_window : (a b : ℕ) {n n' : ℕ} {s s' : List Spot} → Spelled rules n s (window_steps rules a b) n' s' → Gives (a, b) n' s' (window rules n s)
   gives_window a b w =

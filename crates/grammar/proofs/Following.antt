@@ -42,9 +42,7 @@ then_follows h k = read_follows h (λ a n t _. k a n t)
 
 -- a reader that goes by the token at hand
 pub by_token_follows : {A : Type 0} (q : Tok → List Spot → Outcome A) {s : List Spot} {o : Outcome A} → Follows (q (first s).tok) s o → Follows (λ t. q (first t).tok t) s o
-by_token_follows q (reads_too {t} us e h) = reads_too us e (λ t' same. ap (λ (k : Tok). q k (us ++ t')) (sym (ap (λ (r : List Spot). (first r).tok) e ∙ same_first us t t' same)) ∙ h t' same)
-by_token_follows q (refuses_too {t} us e h) = refuses_too us e (λ t' same. ap (λ (k : Tok). q k (us ++ t')) (sym (ap (λ (r : List Spot). (first r).tok) e ∙ same_first us t t' same)) ∙ h t' same)
-by_token_follows q (breaks ne) = breaks ne
+by_token_follows q h = grind (arith, reads_too, same_first, refuses_too, breaks)
 
 -- a reader from behind the token at hand
 pub behind_follows : {A : Type 0} {q : List Spot → Outcome A} {x : Spot} {s : List Spot} {o : Outcome A} → Follows q s o → Follows (λ t. q (rest t)) (x ∷ s) o
@@ -70,8 +68,7 @@ module _ {A : Type 0} where
 
   -- a test of a rule, which the reader that follows passes
   pub rule_follows : (b : Bool) (number place : ℕ) (t : List Spot) {q : List Spot → Outcome A} {s : List Spot} {o : Outcome A} → (number ≡ 2 → ⊥) → (b ≡ true → Follows q s o) → Follows q s (cond b o (fault number place t))
-  rule_follows true number place t ne f = f refl
-  rule_follows false number place t ne f = breaks ne
+  rule_follows b number place t ne f = grind (arith, breaks)
 
   pub passing_follows : {b : Bool} {q : List Spot → Outcome A} (r : List Spot → Outcome A) {s : List Spot} {o : Outcome A} → b ≡ true → Follows q s o → Follows (λ t. cond b (q t) (r t)) s o
   passing_follows {q} r e f = follows_as (λ t. ap (λ (c : Bool). cond c (q t) (r t)) e) f

@@ -26,10 +26,7 @@ module _ (rules : Rules) where
   -- one link more, where there may be as many as tokens and k
   link_step : (k level : ℕ) (inner : Reader PropertyTree) (p : PropertyTree) (y : ConnectiveSign) (n : ℕ) (x : Spot) (s : List Spot) → leb (suc n) rules.parts ≡ true → sign_at level x.tok ≡ Some y → links (k + length (x ∷ s)) rules level inner p n (x ∷ s) ≡ and_then (linked_behind rules inner p y (suc n) s) (links (k + length s) rules level inner)
   unfolding links
-  link_step k level inner p y n x s r e =
-      ap (λ (m : ℕ). links m rules level inner p n (x ∷ s)) (add-suc k (length s))
-      ∙ ap (λ (o : Option ConnectiveSign). elim o [ None ↦ got p n (x ∷ s) | Some z ↦ and_then (linked rules inner p z n (x ∷ s)) (links (k + length s) rules level inner) ]) e
-      ∙ ap (λ (o : Outcome PropertyTree). and_then o (links (k + length s) rules level inner)) (linked_is_behind inner p y n x s r)
+  link_step k level inner p y n x s r e = grind (arith, add-suc, linked_is_behind)
 
 module _ (rules : Rules) (parts nesting : ℕ) (roomy : rules.parts ≤ parts) where
   linked_follows : (inner inner' : Reader PropertyTree) → FollowsReader inner' inner → (p : PropertyTree) (y : ConnectiveSign) → FollowsReader (linked_behind (lax parts nesting) inner' p y) (linked_behind rules inner p y)

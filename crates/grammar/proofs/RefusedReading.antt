@@ -29,7 +29,7 @@ module _ {rules : Rules} where
 
   -- none of what was read breaks a rule
   kept_so_far : {n : ℕ} {s s' : List Spot} {xs : List Step} (left : List Step) (p : PropertyTree) → steps rules p ≡ xs ++ left → (w : Spelled rules 0 s xs n s') → Unbroken rules (take (length (toks (consumed w))) (steps rules p))
-  kept_so_far {xs} left p e w = ap (λ (ys : List Step). first_broken rules 0 ys 0) (ap (λ (k : ℕ). take k (steps rules p)) (length-map (consumed w) (λ t. t.tok) ∙ consumed_length w) ∙ ap (λ (ys : List Step). take (length xs) ys) e ∙ take-append_seam xs left) ∙ none_broken 0 w
+  kept_so_far left p e w = grind (arith, length-map, consumed_length, take-append_seam, none_broken)
 
   -- the place of the token so many tokens back
   place_of : {n back place : ℕ} {s s' : List Spot} {xs : List Step} → Placed rules 0 s xs n s' back place → (w : Spelled rules 0 s xs n s') → place ≡ (first (drop (length (consumed w) - back) s)).at
@@ -60,7 +60,7 @@ module _ {rules : Rules} where
 
 -- a refusal, with what was read before it
 refusal_right : (rules : Rules) (s : List Spot) (number place : ℕ) (s' : List Spot) → reading rules s ≡ fault number place s' → Right rules (properties rules 0 loosest) 0 s (fault number place s')
-refusal_right rules s number place s' e = subst (λ (o : Outcome PropertyTree). Right rules (properties rules 0 loosest) 0 s o) e (reading_right rules s)
+refusal_right rules s number place s' e = grind (arith, reading_right)
 
 -- what stands before goes on to a text, and none of it breaks a rule
 abbrev pub GoesOn : Rules → List Tok → Type 0

@@ -54,11 +54,7 @@ some_lead prefixes.Eventually = (eventually 0 0, led_eventually)
 some_lead prefixes.Always = (always 0 0, led_always)
 
 pub led_by : (l : Lead) → LeadText l → (x : PrefixSign) × Led x l
-led_by negation h = (prefixes.Not, led_not)
-led_by next h = (prefixes.Next, led_next)
-led_by (skipping s k) h = (prefixes.Next, led_skipping h)
-led_by (eventually a b) h = (prefixes.Eventually, led_eventually)
-led_by (always a b) h = (prefixes.Always, led_always)
+led_by l h = grind (arith, led_not, led_next, led_skipping, led_eventually, led_always)
 
 -- the connectives with this sign
 pub data Linked : ConnectiveSign → Link → Type 0 where

@@ -68,26 +68,7 @@ module _ (ns more : List Node) (x : Node) where
   properties_here left o e = two_here left (property o.0) (property o.1) (grind arith) (grind arith) (grind arith)
 
   meant_here : (part : Part) → node ns part ≡ Some x → Meant (ns ++ (x ∷ more)) (length ns) part
-  meant_here (Numeral n) e = nth_at ns more x ∙ sym e
-  meant_here (Variable v) e = nth_at ns more x ∙ sym e
-  meant_here (Unary u) e =
-      let o = mapped_some (as_measure (last_node ns)) e in
-      (o.0, rw (← o.2) (one_here (measure o.0) (grind arith)))
-  meant_here (Binary b left) e =
-      let o = mapped_some (measures_at ns left) e in
-      (o.0.0, o.0.1, rw (← o.2) (measures_here left o.0 o.1))
-  meant_here (Over s w) e =
-      let o = mapped_some (as_measure (last_node ns)) e in
-      (o.0, rw (← o.2) (one_here (measure o.0) (grind arith)))
-  meant_here (Compare c q left) e =
-      let o = mapped_some (measures_at ns left) e in
-      (o.0.0, o.0.1, rw (← o.2) (measures_here left o.0 o.1))
-  meant_here (Prefix y) e =
-      let o = mapped_some (as_property (last_node ns)) e in
-      (o.0, rw (← o.2) (one_here (property o.0) (grind arith)))
-  meant_here (Connective c left) e =
-      let o = mapped_some (properties_at ns left) e in
-      (o.0.0, o.0.1, rw (← o.2) (properties_here left o.0 o.1))
+  meant_here part e = grind (arith, nth_at, mapped_some, one_here, measures_here, properties_here)
 
 -- the first of some parts has a node, and the other parts have the nodes behind it
 pub first_node : (ns : List Node) (p : Part) (ps : List Part) (all : List Node) → nodes_behind ns (p ∷ ps) ≡ Some all → (x : Node) × (node ns p ≡ Some x) × (nodes_behind (ns ++ (x ∷ [])) ps ≡ Some all)

@@ -26,8 +26,7 @@ node_parts start (measure m) = measure_parts start m
 node_parts start (property p) = property_parts start p
 
 length_node_parts : (x : Node) (start : ℕ) → length (node_parts start x) ≡ node_size x
-length_node_parts (measure m) start = length_measure_parts m start
-length_node_parts (property p) start = length_property_parts p start
+length_node_parts x start = grind (arith, length_measure_parts, length_property_parts)
 
 take_nth : {X : Type 0} (xs : List X) (i : ℕ) (x : X) → slice_get xs i ≡ Some x → take (suc i) xs ≡ take i xs ++ (x ∷ [])
 take_nth xs i x e = grind (arith, take_more xs i x (slice_get_within xs i x e), get_or_from_slice_get xs i x x e)
@@ -41,9 +40,7 @@ module _ (ps : List Part) (i : ℕ) where
   ends_leaf part x is at = (take i ps, rw (is, take_nth ps i part at))
 
   ends_one : (part : Part) (y x : Node) → ((s : ℕ) → node_parts s x ≡ node_parts s y ++ (part ∷ [])) → 0 < i → slice_get ps i ≡ Some part → Ends ps (i - 1) y → Ends ps i x
-  ends_one part y x is some at h =
-      let here : suc (i - 1) ≡ i = omega arith in
-      (h.0, rw (is, take_nth ps i part at, ← append_assoc h.0 (node_parts (length h.0) y) (part ∷ []), ← h.1, here))
+  ends_one part y x is some at h = grind (arith, take_nth, append_assoc)
 
   ends_two : (part : ℕ → Part) (left : ℕ) (y z x : Node) → ((s : ℕ) → node_parts s x ≡ (node_parts s y ++ node_parts (s + node_size y) z) ++ (part (s + node_size y - 1) ∷ [])) → left + suc (node_size z) ≡ i → slice_get ps i ≡ Some (part left) → Ends ps left y → Ends ps (i - 1) z → Ends ps i x
   ends_two part left y z x is adjoin at h k =

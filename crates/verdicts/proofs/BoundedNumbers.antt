@@ -58,20 +58,10 @@ unary_within : (u : Unary) (bound : ℕ) (x : Option ℤ) → Within bound x →
 unary_within u bound x h = grind arith
 
 binary_within : (b : Binary) (m n : ℕ) (x y : Option ℤ) → Within m x → Within n y → Within (binary_bound b m n) (both (of_two b) x y)
-binary_within b m n None y h k = tt
-binary_within b m n (Some x) None h k = tt
-binary_within Add m n (Some x) (Some y) h k = omega (arith, magnitude_sum x y)
-binary_within Subtract m n (Some x) (Some y) h k = omega (arith, magnitude_sum x (neg_ℤ y), magnitude_opposite y)
-binary_within Multiply m n (Some x) (Some y) h k = rw (magnitude_product x y) (mul-le-mul h k)
+binary_within b m n x y h k = grind (arith, magnitude_sum, magnitude_opposite, magnitude_product, mul-le-mul)
 
 statistic_within : (s : Statistic) (bound : ℕ) (xs : Option (List ℤ)) → AllWithin bound most_states xs → Within (statistic_bound s bound) (option_map (of_many s) xs)
-statistic_within s bound None h = tt
-statistic_within Min bound (Some []) h = omega arith
-statistic_within Min bound (Some (x ∷ xs)) h = least_within bound x xs h.0.0 h.0.1
-statistic_within Max bound (Some []) h = omega arith
-statistic_within Max bound (Some (x ∷ xs)) h = greatest_within bound x xs h.0.0 h.0.1
-statistic_within Sum bound (Some xs) h = omega (arith, total_within bound xs h.0, mul-le-mul_right bound h.1)
-statistic_within Count bound (Some xs) h = h.1
+statistic_within s bound xs h = grind (arith, least_within, greatest_within, total_within, mul-le-mul_right)
 
 more_within : (bound n : ℕ) (xs : Option (List ℤ)) → AllWithin bound n xs → AllWithin bound (suc n) xs
 more_within bound n xs h = grind arith
@@ -128,5 +118,4 @@ bound_lawful width largest inside (binary b m n) h few = leb-true _ most_bound (
 bound_lawful width largest inside (over s w m) h few = leb-true _ most_bound (over_parts width largest inside s w m h).3
 
 pub numbers_bounded : NumbersBounded
-numbers_bounded width largest inside m h few' mark run few small z known =
-    (subst (Within (bound_of largest m)) known (value_within largest mark m run few small), bound_lawful width largest inside m h few')
+numbers_bounded width largest inside m h few' mark run few small z known = grind (arith, value_within, bound_lawful)

@@ -60,16 +60,14 @@ module _ (shape : Shape) (largest : ℕ) (mark : Mark) (closed : endures mark �
   fits_stays run fits = All-weaker (Fits shape) (λ s. 1 ≤ s.stay) (λ s f. f.stay.0) run fits
 
   visits_in_order : (w : Window) → lawful_window w ≡ true → (run : List State) → AllByRecursion (Fits shape) run → InOrder Closed w run (places mark w.first w.last run)
-  visits_in_order w h run fits = in_order_as mark closed (places_in_order mark w (window_order w h) run (fits_stays run fits))
+  visits_in_order w h run fits = grind (arith, in_order_as, places_in_order, window_order, fits_stays)
 
   visited_there : (run : List State) (j : ℕ) {w : Window} → Visits Closed w run j → 0 < length (drop j run)
   visited_there run j v = omega (arith, v.belongs.there, length-drop j run)
 
   over_folds : {A : Type 0} (join : List State → A → A) (done cut : A) (w : Window) (run : List State) → 0 < length run
       → tour_of join done cut mark w run ≡ foldr (λ j x. join (drop j run) x) done (places mark w.first w.last run)
-  over_folds join done cut w run some =
-      tour_folds join done cut mark w.first w.last run
-      ∙ ap (λ told. foldr (λ j x. join (drop j run) x) (cond told done cut) (places mark w.first w.last run)) (closed_whole mark closed w.first w.last run some)
+  over_folds join done cut w run some = grind (arith, tour_folds, closed_whole)
 
   variable_told : (v : ℕ) → v < shape.width → (run : List State) → AllByRecursion (Fits shape) run → 0 < length run → Only (λ z. value_at run 0 v ≡ Some z) (value_at run 0 v)
   variable_told v h [] fits some = absurd (omega arith)

@@ -61,7 +61,7 @@ module _ {A : Type 0} (none done : A) (join join' : List State → A → A) (mar
 module _ (width largest : ℕ) (mark later : Mark) (more : List State) (open' : endures mark ≡ false) where
   over_keeps : {A : Type 0} (none done : A) (join join' : List State → A → A) → ((t : List State) (x x' : A) → Keeps none x x' → Keeps none (join t x) (join' (t ++ more) x'))
       → (w : Window) → lawful_window w ≡ true → (run : List State) → Keeps none (tour_of join done none mark w run) (tour_of join' done none later w (run ++ more))
-  over_keeps none done join join' joins w h run = tour_keeps none done join join' mark later more open' joins w.first w.last (window_order w h) run
+  over_keeps none done join join' joins w h run = grind (arith, tour_keeps, window_order)
 
   variable_keeps : (v : ℕ) (run : List State) → Keeps None (value_at run 0 v) (value_at (run ++ more) 0 v)
   variable_keeps v [] = yet

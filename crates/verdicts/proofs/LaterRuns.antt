@@ -47,16 +47,13 @@ module _ (most : ℕ) where
   kept_fits s (suc n) run fits all = all
 
   fed_fits : (refused : Option Refusal) (o : Offered) (m : Meaning) → (refused ≡ None → Fits m.run.shape (state_of o)) → AllFit m → AllFit (fed refused o m)
-  fed_fits (Some r) o m fits all = all
-  fed_fits None o m fits all = kept_fits (state_of o) m.lead m.run (fits refl) all
+  fed_fits refused o m fits all = grind (arith, kept_fits)
 
   closed_fits : (o : Option Refusal) (m : Meaning) (mark : Mark) → AllFit m → AllFit (after o m (record { run = record { shape = m.run.shape; states = m.run.states; mark = mark }; lead = m.lead }))
   closed_fits o m mark all = grind arith
 
   stepped_fits : (s : Step) (m : Meaning) → AllFit m → AllFit (stepped most s m)
-  stepped_fits (feeds free need o) m all =
-      fed_fits (feed_refusal most free need m o) o m (λ taken. offered_fits m.run.shape most o (taken_lawful most free need m o taken)) all
-  stepped_fits closes m all = closed_fits (close_refusal m) m Closed all
+  stepped_fits s m all = grind (arith, fed_fits, offered_fits, taken_lawful, closed_fits)
 
 pub states_fit : StatesFit
 states_fit most m all [] = all

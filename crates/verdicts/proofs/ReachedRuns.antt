@@ -49,8 +49,7 @@ settled_compared c (known x) (known y) = by_test (compares c x y)
     by_test false = as_false
 
 settled_swap : {v : Verdict} → Settled v → Settled (swap v)
-settled_swap as_false = as_true
-settled_swap as_true = as_false
+settled_swap h = grind (arith, as_false, as_true)
 
 settled_lesser : {v w : Verdict} → Settled v → Settled w → Settled (lesser v w)
 settled_lesser h k = grind arith
@@ -124,11 +123,7 @@ module _ (shape : Shape) (largest : ℕ) (mark : Mark) where
 
   rises_reached : (c : Comparator) (m n : List State → Option ℤ) (needed : ℕ) → 1 ≤ needed → ((t : List State) → AllByRecursion (Fits shape) t → needed ≤ ticks t → Known (m t)) → ((t : List State) → AllByRecursion (Fits shape) t → needed ≤ ticks t → Known (n t))
       → (run : List State) → AllByRecursion (Fits shape) run → needed + shape.longest ≤ ticks run → Settled (rises c m n mark run)
-  rises_reached c m n needed some m_known n_known [] fits enough = absurd (omega arith)
-  rises_reached c m n needed some m_known n_known (s ∷ r) fits enough =
-      let rest : needed ≤ ticks r = omega (arith, ticks_cons s r, fits.0.stay.1) in
-      further_reached (rise c m n s r) r (omega arith)
-      (settled_compared c (known_both ◌-ℤ◌ (m_known r fits.1 rest) (m_known (s ∷ r) fits (omega arith))) (known_mapped (λ x. x *ℤ pos s.stay) (n_known (s ∷ r) fits (omega arith))))
+  rises_reached c m n needed some m_known n_known run fits enough = grind (arith, ticks_cons, further_reached, settled_compared, known_both, known_mapped)
 
   verdict_reached : (p : Property) → lawful shape.width largest p ≡ true → (run : List State) → AllByRecursion (Fits shape) run → reach_of shape.longest p ≤ ticks run → Settled (verdict p mark run)
   verdict_reached (compare c Value m n) h run fits enough =

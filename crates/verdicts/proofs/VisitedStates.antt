@@ -31,10 +31,7 @@ module _ {A : Type 0} (join : List State → A → A) (done cut : A) (mark : Mar
       → x ≡ foldr (λ j y. join (drop j r) y) (cond w done cut) js
       → tour_at begun ended (join (s ∷ r)) done x
       ≡ foldr (λ j y. join (drop j (s ∷ r)) y) (cond (tour_at begun ended (λ told. told) true w) done cut) (tour_at begun ended (λ ks. 0 ∷ ks) [] (map suc js))
-  fold_toured true true s r w x js e = refl
-  fold_toured true false s r w x js e = ap (join (s ∷ r)) (e ∙ sym (fold_after s r (cond w done cut) js))
-  fold_toured false true s r w x js e = refl
-  fold_toured false false s r w x js e = e ∙ sym (fold_after s r (cond w done cut) js)
+  fold_toured begun ended s r w x js e = grind (arith, fold_after)
 
   pub tour_folds : (a b : ℕ) (run : List State)
       → tour join done cut mark a b run ≡ foldr (λ j x. join (drop j run) x) (cond (whole_from mark a b run) done cut) (places mark a b run)
@@ -58,10 +55,7 @@ later_among : (begun ended : Bool) (js : List ℕ) (j : ℕ) → ended ≡ false
 later_among begun ended js j h m = grind arith
 
 toured_rising : (begun ended : Bool) (js : List ℕ) → Rising js → Rising (tour_at begun ended (λ ks. 0 ∷ ks) [] (map suc js))
-toured_rising true true js h = (λ k m. absurd m, tt)
-toured_rising true false js h = (λ k m. let found = among_suc k js m in omega (arith, found.1), rising_suc js h)
-toured_rising false true js h = tt
-toured_rising false false js h = rising_suc js h
+toured_rising begun ended js h = grind (arith, among_suc, rising_suc)
 
 places_rising : (mark : Mark) (a b : ℕ) (run : List State) → Rising (places mark a b run)
 places_rising mark a b [] = tt
