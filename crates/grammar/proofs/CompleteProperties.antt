@@ -1,5 +1,5 @@
 -- The readers of comparisons and operands read every operand that is spelled and breaks no rule.
-use Rattle.std.proofs.Common.{◌≡◌, ℕ, zero, suc, pred, ◌+◌, Bool, true, false, ◌&&◌, ltb, List, [], ◌∷◌, ◌++◌, None, sym, refl, subst, ap₂, append_assoc}
+use Rattle.std.proofs.Common.{◌≡◌, ℕ, zero, suc, pred, ◌+◌, Bool, true, false, ◌&&◌, ltb, List, [], ◌∷◌, ◌++◌, None, sym, refl, subst, ap₂, append_assoc, arith}
 use Rattle.parts.specs.declared.kinds.Comparator.{Comparator}
 use Rattle.parts.specs.declared.kinds.Quantity.{Quantity}
 use Rattle.parts.specs.declared.kinds.Quantity.TheVariants.{Value, Change}
@@ -7,7 +7,7 @@ use Rattle.tokens.specs.Tokens.{Tok, Spot, mark, comparator, prefix, stop}
 use Rattle.tokens.specs.declared.words.PrefixSign.{PrefixSign}
 use Rattle.tokens.specs.declared.words.Punctuation.{Punctuation}
 use Rattle.tokens.specs.declared.words.Punctuation.TheVariants.{Open, Close, OpenWindow}
-use Rattle.grammar.specs.Layers.{MeasureText, a_numeral, a_variable, a_unary, a_binary, a_statistic, PropertyText, a_comparison, a_prefix, a_bracket, tighter, a_link, loosest}
+use Rattle.grammar.specs.Layers.{MeasureText, PropertyText, a_comparison, a_prefix, a_bracket, tighter, a_link, loosest}
 use Rattle.grammar.specs.Reading.{Outcome, Reader, first, is_mark, compared, comparison, change_comparison, prefix_sign, prefixed_by, bracketed_by, operand_at, sign_at}
 use Rattle.grammar.specs.Steps.{Rules, Step, plain, bringing, nesting, leading, left_steps, measure_steps, property_steps}
 use Rattle.grammar.specs.Trees.{MeasureTree, Lead, PropertyTree, compare, prefixed, bracketed}
@@ -49,22 +49,14 @@ module _ {rules : Rules} where
       gives_compared d left Change c l m deep u x)))
 
   gives_prefix_sign : (d left : ℕ) (x : PrefixSign) {n n' : ℕ} {s s' : List Spot} → d + left ≡ rules.nesting → Spelled rules n s (leading (suc d) (prefix x) ∷ []) n' s' → Gives tt n' s' (prefix_sign rules left n s)
-  gives_prefix_sign d left x {n} deep (more e none) = if_true _ (ap₂ ◌&&◌ (left_for rules n d left (leading (suc d) (prefix x)) deep refl e) (kept rules n (leading (suc d) (prefix x)) e).1) it_does
+  gives_prefix_sign d left x deep h = grind (arith, if_true, left_for, it_does)
 
   -- what begins a measure begins a comparison
   by_comparison : (d left : ℕ) (inner whole : Reader PropertyTree) {inside : Bool} {ts : List Tok} {m : MeasureTree} {n n' : ℕ} {s s' : List Spot} → MeasureText inside ts m → Spelled rules n s (measure_steps rules d m) n' s' → operand_at rules left inner whole (first s).tok n s ≡ comparison rules left n s
-  by_comparison d left inner whole a_numeral (more e w) = refl
-  by_comparison d left inner whole a_variable (more e w) = refl
-  by_comparison d left inner whole (a_unary t) (more e w) = refl
-  by_comparison d left inner whole (a_binary t u) (more e w) = refl
-  by_comparison d left inner whole (a_statistic t) (more e w) = refl
+  by_comparison d left inner whole h k = grind arith
 
   measure_begins : (d : ℕ) {inside : Bool} {ts : List Tok} {m : MeasureTree} {n n' : ℕ} {s s' : List Spot} → MeasureText inside ts m → Spelled rules n s (measure_steps rules d m) n' s' → is_mark OpenWindow (first s).tok ≡ false
-  measure_begins d a_numeral (more e w) = refl
-  measure_begins d a_variable (more e w) = refl
-  measure_begins d (a_unary t) (more e w) = refl
-  measure_begins d (a_binary t u) (more e w) = refl
-  measure_begins d (a_statistic t) (more e w) = refl
+  measure_begins d h k = grind arith
 
   -- no formula begins as an index of X does
   property_begins : (d : ℕ) {level : ℕ} {ts : List Tok} {p : PropertyTree} {n n' : ℕ} {s s' : List Spot} → PropertyText level ts p → Spelled rules n s (property_steps rules d p) n' s' → is_mark OpenWindow (first s).tok ≡ false

@@ -1,5 +1,6 @@
 -- The readers with lax rules, which only limit parts and nesting, and no less than the rules at hand, follow those with the rules at hand.
 use Rattle.std.proofs.Common.{◌≡◌, ℕ, zero, suc, pred, ◌≤◌, Bool, true, false, cond, ◌&&◌, ltb, leb, List, [], ◌∷◌, Some, None, Option, refl, ap, ap₂, arith, ltb-true, lt-ltb, le-leb, leb-true}
+use Rattle.std.proofs.lemmas.Bool.{and_parts}
 use Rattle.parts.specs.declared.kinds.Comparator.{Comparator}
 use Rattle.parts.specs.declared.kinds.Quantity.{Quantity}
 use Rattle.parts.specs.declared.kinds.Quantity.TheVariants.{Value, Change}
@@ -16,7 +17,6 @@ use Rattle.grammar.specs.Steps.{Rules}
 use Rattle.grammar.specs.Trees as tree
 use Rattle.grammar.specs.Trees.{MeasureTree, PropertyTree}
 use Rattle.grammar.proofs.Following.{Follows, breaks, FollowsReader, follows_as, read_follows, then_follows, by_token_follows, behind_follows, refuse_follows, got_follows, taken_follows, cond_follows, rule_follows, passing_follows}
-use Rattle.grammar.proofs.Keeping.{both_true}
 use Rattle.grammar.proofs.TokenReaders.{none_left}
 
 -- every test is passed
@@ -36,20 +36,10 @@ opening_follows left left' h n (x ∷ s) = by_token_follows (λ k t. cond (is_ma
 
 -- an opening bracket is read only where some nesting is left
 opening_got : (left n m : ℕ) (s t : List Spot) (u : Unit {0}) → opening left n s ≡ got u m t → ltb 0 left ≡ true
-opening_got left n m s t u e = by (is_mark Open (first s).tok) (ltb 0 left) e
-  where
-    by : (b c : Bool) → cond b (cond c (got u n (rest s)) (refuse 6 s)) (refuse 2 s) ≡ got u m t → c ≡ true
-    by true true e = refl
-    by true false e = cc
-    by false true e = refl
-    by false false e = cc
+opening_got left n m s t u e = grind arith
 
 prefix_sign_got : (rules : Rules) (left n m : ℕ) (s t : List Spot) (u : Unit {0}) → prefix_sign rules left n s ≡ got u m t → ltb 0 left ≡ true
-prefix_sign_got rules left n m s t u e = by (ltb 0 left) (leb (suc n) rules.parts) e
-  where
-    by : (b c : Bool) → cond (b && c) (got u (suc n) (rest s)) (refuse 6 s) ≡ got u m t → b ≡ true
-    by true c e = refl
-    by false c e = cc
+prefix_sign_got rules left n m s t u e = grind arith
 
 module _ (rules : Rules) (parts nesting : ℕ) (roomy : rules.parts ≤ parts) where
   pub room : (n : ℕ) → leb n rules.parts ≡ true → leb n parts ≡ true
@@ -177,7 +167,7 @@ module _ (rules : Rules) (parts nesting : ℕ) (roomy : rules.parts ≤ parts) w
       then_follows (punctuation_follows Close n s) (λ _ n s. compared_follows left left' h Change m n s)))
 
   prefix_sign_follows : (left left' : ℕ) → left ≤ left' → (n : ℕ) (x : Spot) (s : List Spot) → Follows (prefix_sign (lax parts nesting) left' n) (x ∷ s) (prefix_sign rules left n (x ∷ s))
-  prefix_sign_follows left left' h n x s = rule_follows (ltb 0 left && leb (suc n) rules.parts) 6 _ _ (λ z. omega arith) (λ e. let b = both_true (ltb 0 left) (leb (suc n) rules.parts) e in passing_follows _ (ap₂ ◌&&◌ (more_left left left' h b.0) (room (suc n) b.1)) taken_follows)
+  prefix_sign_follows left left' h n x s = rule_follows (ltb 0 left && leb (suc n) rules.parts) 6 _ _ (λ z. omega arith) (λ e. let b = and_parts (ltb 0 left) (leb (suc n) rules.parts) e in passing_follows _ (ap₂ ◌&&◌ (more_left left left' h b.0) (room (suc n) b.1)) taken_follows)
 
   prefixed_follows : (left left' : ℕ) (inner inner' : Reader PropertyTree) (y : PrefixSign) (n : ℕ) (x : Spot) (s : List Spot) → left ≤ left' → (ltb 0 left ≡ true → FollowsReader inner' inner) → Follows (prefixed_by (lax parts nesting) left' y inner' n) (x ∷ s) (prefixed_by rules left y inner n (x ∷ s))
   prefixed_follows left left' inner inner' y n x s h f =

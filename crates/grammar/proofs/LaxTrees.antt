@@ -1,5 +1,5 @@
 -- No tree breaks a lax rule, if its parts and its nesting have room.
-use Rattle.std.proofs.Common.{◌≡◌, ℕ, suc, ◌+◌, ◌≤◌, Bool, true, false, cond, List, [], ◌∷◌, ◌++◌, length, None, sym, refl, ap, ◌∙◌, arith, le-leb}
+use Rattle.std.proofs.Common.{◌≡◌, ℕ, suc, ◌+◌, ◌≤◌, List, [], ◌∷◌, ◌++◌, length, None, sym, refl, ap, ◌∙◌, arith, le-leb}
 use lib.ListN.{length-map}
 use Rattle.parts.specs.declared.kinds.Quantity.{Quantity}
 use Rattle.parts.specs.declared.kinds.Quantity.TheVariants.{Value, Change}
@@ -38,11 +38,7 @@ property_depth (joined l p q) = property_depth p + property_depth q
 property_depth (bracketed p) = suc (property_depth p)
 
 brought_by_most : (n : ℕ) (x : Step) → brought_by n x ≤ suc n
-brought_by_most n x = by x.brings
-  where
-    by : (b : Bool) → cond b (suc n) n ≤ suc n
-    by true = omega arith
-    by false = omega arith
+brought_by_most n x = grind arith
 
 module _ (parts nesting : ℕ) where
   none_broken : {xs : List Step} (n i : ℕ) → n + length xs ≤ parts → Mild nesting xs → first_broken (lax parts nesting) n xs i ≡ None

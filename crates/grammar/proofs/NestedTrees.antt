@@ -1,19 +1,18 @@
 -- A formula can be written as deeply nested as a tree of it is, or less.
-use Rattle.std.proofs.Common.{◌≡◌, ℕ, suc, pred, ◌+◌, ◌≤◌, max, true, leb, List, ◌∷◌, ◌++◌, refl, ap, ◌∙◌, arith}
+use Rattle.std.proofs.Common.{◌≡◌, ℕ, suc, pred, ◌+◌, ◌≤◌, max, true, leb, List, ◌∷◌, ◌++◌, ap, ◌∙◌, arith}
 use Rattle.std.specs.List.{AllByRecursion}
 use Rattle.std.proofs.lemmas.Bool.Decides.{nat_tests}
 use Rattle.parts.specs.Formulas as formula
 use Rattle.parts.specs.Formulas.{Property}
 use Rattle.parts.specs.Nesting.{measure_nesting, left_nesting, connective_level, bracket_nesting, nesting_at}
 use Rattle.parts.specs.declared.kinds.Connective.{Connective}
-use Rattle.parts.specs.declared.kinds.Connective.TheVariants as connectives
 use Rattle.parts.specs.declared.kinds.Quantity.{Quantity}
 use Rattle.parts.specs.declared.kinds.Quantity.TheVariants.{Value, Change}
 use Rattle.tokens.specs.Tokens.{Tok}
 use Rattle.grammar.specs.Layers.{PropertyText, a_comparison, a_prefix, a_bracket, tighter, a_link, link_level}
 use Rattle.grammar.specs.Meanings.{Columns, measure_of, connective_of, property_of}
 use Rattle.grammar.specs.Steps.{Rules, Step, measure_steps, window_steps, lead_steps, link_steps, left_steps, property_steps}
-use Rattle.grammar.specs.Trees.{MeasureTree, numeral, variable, unary, binary, over, Lead, negation, next, skipping, eventually, always, Link, and, or, implies, iff, until, PropertyTree, joined}
+use Rattle.grammar.specs.Trees.{MeasureTree, numeral, variable, unary, binary, over, Lead, Link, PropertyTree, joined}
 use Rattle.grammar.proofs.LawfulTrees.{Keeps, all_split}
 
 -- a formula that may bind more loosely takes no deeper nesting, and brackets take one more
@@ -29,11 +28,7 @@ nesting_looser allowed looser (formula.prefixed x f) h = omega arith
 nesting_looser allowed looser (formula.joined c f g) h = bracket_looser allowed looser (connective_level c) _ h
 
 level_at_most : (c : Connective) → leb (connective_level c) 5 ≡ true
-level_at_most connectives.And = refl
-level_at_most connectives.Or = refl
-level_at_most connectives.Implies = refl
-level_at_most connectives.Iff = refl
-level_at_most (connectives.Until w) = refl
+level_at_most c = grind arith
 
 pub nesting_bracketed : (f : Property) → nesting_at 0 f ≤ suc (nesting_at 5 f)
 nesting_bracketed (formula.compare c d m n) = omega arith
@@ -41,11 +36,7 @@ nesting_bracketed (formula.prefixed x f) = omega arith
 nesting_bracketed (formula.joined c f g) = let e = level_at_most c in rw e (bracket_one 0 (connective_level c) _)
 
 same_level : (l : Link) → connective_level (connective_of l) ≡ link_level l
-same_level and = refl
-same_level or = refl
-same_level implies = refl
-same_level iff = refl
-same_level (until a b) = refl
+same_level l = grind arith
 
 bracket_none : (allowed level nesting : ℕ) → level ≡ allowed → bracket_nesting allowed level nesting ≡ nesting
 bracket_none allowed level nesting e = grind (arith, nat_tests)
@@ -79,11 +70,7 @@ module _ (rules : Rules) (columns : Columns) where
       omega arith
 
   lead_nested : (d : ℕ) (l : Lead) → Deep (lead_steps rules d l) → d ≤ rules.nesting
-  lead_nested d negation h = h.0.1
-  lead_nested d next h = h.0.1
-  lead_nested d (skipping s k) h = h.0.1
-  lead_nested d (eventually a b) h = h.0.1
-  lead_nested d (always a b) h = h.0.1
+  lead_nested d l h = grind arith
 
   pub property_nested : {level : ℕ} {ts : List Tok} {p : PropertyTree} (k : ℕ) → k ≤ rules.nesting → PropertyText level ts p → Deep (property_steps rules k p) → k + nesting_at level (property_of columns p) ≤ rules.nesting
   property_nested k r (a_comparison {q} {c} {ms} {ns} {m} {n} t u) h =

@@ -1,5 +1,5 @@
 -- The readers of comparisons, operands, levels and formulas are right.
-use Rattle.std.proofs.Common.{◌≡◌, ℕ, zero, suc, pred, ◌+◌, Bool, true, false, ◌&&◌, ltb, leb, List, [], ◌∷◌, ◌++◌, length, Some, None, Option, sym, refl, ap, ◌∙◌, subst, append_assoc, append-nil, zero-add, arith, ltb-true}
+use Rattle.std.proofs.Common.{◌≡◌, ℕ, zero, suc, pred, ◌+◌, true, false, ◌&&◌, ltb, leb, List, [], ◌∷◌, ◌++◌, length, Some, None, Option, sym, refl, ap, ◌∙◌, subst, append_assoc, append-nil, zero-add, arith, ltb-true}
 use Rattle.parts.specs.declared.kinds.Comparator.{Comparator}
 use Rattle.parts.specs.declared.kinds.Comparator.TheVariants.{Less}
 use Rattle.parts.specs.declared.kinds.Quantity.{Quantity}
@@ -10,7 +10,7 @@ use Rattle.tokens.specs.declared.words.PrefixSign.{PrefixSign}
 use Rattle.tokens.specs.declared.words.Punctuation.TheVariants.{Open, Close}
 use Rattle.grammar.specs.Layers.{PropertyText, a_comparison, a_prefix, a_bracket, tighter, a_link, loosest}
 use Rattle.grammar.specs.Reading.{got, Reader, and_then, refuse, bring, comparator_of, compared_by, compared, comparison, change_comparison, prefix_sign, prefixed_by, bracketed_by, operand_at, sign_at, sign_level, linked, links, tier, operand, formula}
-use Rattle.grammar.specs.Steps.{Rules, Step, unless, plain, bringing, nesting, leading, link_steps, left_steps, measure_steps, property_steps}
+use Rattle.grammar.specs.Steps.{Rules, Step, plain, bringing, nesting, leading, link_steps, left_steps, measure_steps, property_steps}
 use Rattle.grammar.specs.Trees.{MeasureTree, Lead, Link, PropertyTree, compare, prefixed, joined, bracketed}
 use Rattle.grammar.proofs.Keeping.{Room, leb_left, plain_judged}
 use Rattle.grammar.proofs.MeasureReaders.{AMeasure, some_measure, some_measure_is, measure_fine}
@@ -49,12 +49,6 @@ link_is e k h i = (_, a_link (linked_level k ∙ e) h.1 i.1)
 
 pub deeper_behind : (d left : ℕ) {most : ℕ} → d + left ≡ most → ltb 0 left ≡ true → suc d + pred left ≡ most
 deeper_behind d left deep l = let h = ltb-true 0 left l in omega arith
-
-swapped : (a b : Bool) → (a && b) ≡ (b && a)
-swapped true true = refl
-swapped true false = refl
-swapped false true = refl
-swapped false false = refl
 
 -- the steps of a joined tree, as they are read
 joined_steps : (ps qs rs ls : List Step) (x : Step) → ls ≡ x ∷ rs → ps ++ (ls ++ qs) ≡ ((ps ++ (x ∷ [])) ++ rs) ++ qs
@@ -96,7 +90,7 @@ module _ {rules : Rules} where
   prefix_sign_right : (d left n place : ℕ) (s : List Spot) (x : PrefixSign) → d + left ≡ rules.nesting → Right rules (one (leading (suc d) (prefix x))) n (spot (prefix x) place ∷ s) (prefix_sign rules left n (spot (prefix x) place ∷ s))
   prefix_sign_right d left n place s x deep =
       take_right tt (leading (suc d) (prefix x)) (ltb 0 left && leb (suc n) rules.parts) 6 (λ z. omega arith)
-      (ap (λ (b : Bool). unless b 6) (ap (λ (k : ℕ). leb (suc n) rules.parts && leb (suc d) k) (sym deep) ∙ ap (λ (b : Bool). leb (suc n) rules.parts && b) (leb_left d left) ∙ swapped (leb (suc n) rules.parts) (ltb 0 left))) refl tt refl
+      (grind (arith, leb_left d left, deep)) refl tt refl
 
   prefixed_right : {inner : Reader PropertyTree} (d left n place : ℕ) (s : List Spot) (x : PrefixSign) → d + left ≡ rules.nesting → Room rules n → (ltb 0 left ≡ true → Fine rules inner (properties rules (suc d) 0)) → Right rules (properties rules d 0) n (spot (prefix x) place ∷ s) (prefixed_by rules left x inner n (spot (prefix x) place ∷ s))
   prefixed_right d left n place s x deep r fine =

@@ -79,11 +79,7 @@ prefix_left l t (tighter p) = (_, tighter (prefix_left l t p).1)
 prefix_left l t (a_link {l = k} {ps = ps} {qs = qs} e p q) = rw (← append_assoc (lead_tokens l) ps (link_tokens k ++ qs)) (_, a_link e (prefix_left l t p).1 q)
 
 above_operands : (l : Link) → link_level l ≤ 0 → ⊥
-above_operands and h = omega arith
-above_operands or h = omega arith
-above_operands implies h = omega arith
-above_operands iff h = omega arith
-above_operands (until a b) h = omega arith
+above_operands l h = grind arith
 
 -- one operand more at the right: at the level of its connective, or behind the last operand of a looser one
 operand_right : (l : Link) {level : ℕ} {ps qs : List Tok} {p q : PropertyTree} → link_level l ≤ level → PropertyText level ps p → PropertyText 0 qs q → Grouped level (ps ++ (link_tokens l ++ qs))
@@ -102,11 +98,7 @@ operand_right l {qs = qs} within (a_link {level = level} {l = k} {ps = ps} {qs =
     (cases_eq (link_level l) (suc level))
 
 within_loosest : (l : Link) → link_level l ≤ loosest
-within_loosest and = omega arith
-within_loosest or = omega arith
-within_loosest implies = omega arith
-within_loosest iff = omega arith
-within_loosest (until a b) = omega arith
+within_loosest l = grind arith
 
 -- two texts joined, by induction on the right one
 join : (l : Link) {level : ℕ} {ps qs : List Tok} {p q : PropertyTree} → PropertyText loosest ps p → PropertyText level qs q → Grouped loosest (ps ++ (link_tokens l ++ qs))

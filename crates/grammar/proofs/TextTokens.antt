@@ -20,18 +20,10 @@ after_token : {ts us : List Tok} (t : Tok) → ts ≡ us → t ∷ ts ≡ t ∷ 
 after_token t e = ap {B = List Tok} (λ ts. t ∷ ts) e
 
 tokens_of_lead : (rules : Rules) (d : ℕ) (l : Lead) → step_tokens (lead_steps rules d l) ≡ lead_tokens l
-tokens_of_lead rules d negation = refl
-tokens_of_lead rules d next = refl
-tokens_of_lead rules d (skipping s k) = refl
-tokens_of_lead rules d (eventually a b) = refl
-tokens_of_lead rules d (always a b) = refl
+tokens_of_lead rules d l = grind arith
 
 tokens_of_link : (rules : Rules) (l : Link) → step_tokens (link_steps rules l) ≡ link_tokens l
-tokens_of_link rules and = refl
-tokens_of_link rules or = refl
-tokens_of_link rules implies = refl
-tokens_of_link rules iff = refl
-tokens_of_link rules (until a b) = refl
+tokens_of_link rules l = grind arith
 
 measure_tokens : {inside : Bool} {ts : List Tok} {m : MeasureTree} (rules : Rules) (d : ℕ) → MeasureText inside ts m → step_tokens (measure_steps rules d m) ≡ ts
 measure_tokens rules d a_numeral = refl
@@ -45,8 +37,7 @@ measure_tokens rules d (a_statistic {s} {a} {b} {m} t) =
     after_token (token.statistic s) (after_token (mark Open) (joined_tokens (window_steps rules a b ++ measure_steps rules (suc d) m) _ (joined_tokens (window_steps rules a b) (measure_steps rules (suc d) m) refl (measure_tokens rules (suc d) t)) refl))
 
 left_tokens : {ts : List Tok} (rules : Rules) (d : ℕ) (q : Quantity) (m : MeasureTree) → MeasureText false ts m → step_tokens (left_steps rules d q m) ≡ change_tokens q ts
-left_tokens rules d Value m t = measure_tokens rules d t
-left_tokens rules d Change m t = after_token change (after_token (mark Open) (joined_tokens (measure_steps rules (suc d) m) _ (measure_tokens rules (suc d) t) refl))
+left_tokens rules d q m t = grind (arith, measure_tokens, after_token, joined_tokens)
 
 pub property_tokens : {level : ℕ} {ts : List Tok} {p : PropertyTree} (rules : Rules) (d : ℕ) → PropertyText level ts p → step_tokens (property_steps rules d p) ≡ ts
 property_tokens rules d (a_comparison {q} {c} {m} {n} t u) = joined_tokens (left_steps rules d q m) (bringing (comparator c) ∷ measure_steps rules d n) (left_tokens rules d q m t) (after_token (comparator c) (measure_tokens rules d u))
@@ -71,21 +62,13 @@ bracketed : {ts : List Tok} → Tokens ts → Tokens (bracket_tokens ts)
 bracketed h = more (token_is _ refl) (both h (more (token_is _ refl) none))
 
 window_has_tokens : (a b : ℕ) → Tokens (window_tokens a b)
-window_has_tokens a b = more (token_is _ refl) (more (token_is _ refl) (more (token_is _ refl) (more (token_is _ refl) (more (token_is _ refl) none))))
+window_has_tokens a b = grind (arith, more, token_is, none)
 
 lead_has_tokens : (l : Lead) → Tokens (lead_tokens l)
-lead_has_tokens negation = more (token_is _ refl) none
-lead_has_tokens next = more (token_is _ refl) none
-lead_has_tokens (skipping s k) = more (token_is _ refl) (more (token_is _ refl) (more (token_is _ refl) (more (token_is _ refl) none)))
-lead_has_tokens (eventually a b) = more (token_is _ refl) (window_has_tokens a b)
-lead_has_tokens (always a b) = more (token_is _ refl) (window_has_tokens a b)
+lead_has_tokens l = grind (arith, more, token_is, none, window_has_tokens)
 
 link_has_tokens : (l : Link) → Tokens (link_tokens l)
-link_has_tokens and = more (token_is _ refl) none
-link_has_tokens or = more (token_is _ refl) none
-link_has_tokens implies = more (token_is _ refl) none
-link_has_tokens iff = more (token_is _ refl) none
-link_has_tokens (until a b) = more (token_is _ refl) (window_has_tokens a b)
+link_has_tokens l = grind (arith, more, token_is, none, window_has_tokens)
 
 measure_has_tokens : {inside : Bool} {ts : List Tok} {m : MeasureTree} → MeasureText inside ts m → Tokens ts
 measure_has_tokens a_numeral = more (token_is _ refl) none
@@ -95,8 +78,7 @@ measure_has_tokens (a_binary t u) = more (token_is _ refl) (bracketed (both (mea
 measure_has_tokens (a_statistic {a} {b} t) = more (token_is _ refl) (bracketed (both (window_has_tokens a b) (measure_has_tokens t)))
 
 left_has_tokens : {ts : List Tok} (q : Quantity) → Tokens ts → Tokens (change_tokens q ts)
-left_has_tokens Value h = h
-left_has_tokens Change h = more (token_is _ refl) (bracketed h)
+left_has_tokens q h = grind (arith, more, token_is, bracketed)
 
 pub property_has_tokens : {level : ℕ} {ts : List Tok} {p : PropertyTree} → PropertyText level ts p → Tokens ts
 property_has_tokens (a_comparison {q} t u) = both (left_has_tokens q (measure_has_tokens t)) (more (token_is _ refl) (measure_has_tokens u))

@@ -52,8 +52,7 @@ length_property_nodes (prefixed x p) = simp length-append (let h = length_proper
 length_property_nodes (joined c p q) = simp length-append (let h = length_property_nodes p in let k = length_property_nodes q in omega arith)
 
 length_node_nodes : (x : Node) → length (node_nodes x) ≡ node_size x
-length_node_nodes (measure m) = length_measure_nodes m
-length_node_nodes (property p) = length_property_nodes p
+length_node_nodes x = grind (arith, length_measure_nodes, length_property_nodes)
 
 last_is : (ns : List Node) (x : Node) → last_node (ns ++ node_nodes x) ≡ Some x
 last_is ns x =

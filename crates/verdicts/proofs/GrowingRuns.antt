@@ -1,6 +1,6 @@
 -- A decided verdict and a known number stay, whatever states follow and whether or not the run is then closed. Assumes nothing.
-use Rattle.std.proofs.Common.{◌≡◌, ℕ, zero, suc, ◌-◌, ◌≤◌, Bool, true, false, cond, ◌||◌, leb, List, [], ◌∷◌, ◌++◌, drop, ℤ, pos, ◌-ℤ◌, ◌*ℤ◌, Some, None, Option, sym, refl, ap, ◌∙◌, inl, inr, arith}
-use Rattle.std.proofs.lemmas.Bool.{and_right, false≢true, or_cases, or_left}
+use Rattle.std.proofs.Common.{◌≡◌, ℕ, zero, suc, ◌-◌, ◌≤◌, Bool, true, false, cond, List, [], ◌∷◌, ◌++◌, drop, ℤ, pos, ◌-ℤ◌, ◌*ℤ◌, Some, None, Option, refl, ◌∙◌, arith}
+use Rattle.std.proofs.lemmas.Bool.{false≢true}
 use Rattle.parts.specs.Formulas.{Measure, numeral, variable, unary, binary, over, Property, compare, prefixed, joined}
 use Rattle.parts.specs.Limits.{lawful, lawful_measure, lawful_window}
 use Rattle.parts.specs.declared.kinds.Comparator.{Comparator}
@@ -39,11 +39,11 @@ last_keeps none done false false begun' ended' join join' x joins order begins e
 
 -- On a run whose last state does not yet endure, a moment within a state stays within it.
 within_stays : (mark later : Mark) (t : ℕ) (s : State) (r : List State) → endures mark ≡ false → within mark t s [] ≡ true → within later t s r ≡ true
-within_stays mark later t s r lasts h = or_left (leb t s.stay) _ (elim (or_cases (leb t s.stay) _ (rw lasts at h)) [ inl e ↦ e | inr e ↦ absurd (false≢true e) ])
+within_stays mark later t s r lasts h = grind arith
 
 -- where another state follows, the marks make no difference
 within_middle : (mark later : Mark) (t : ℕ) (s n : State) (r more : List State) → within mark t s (n ∷ r) ≡ within later t s (n ∷ more)
-within_middle mark later t s n r more = ap (λ x. leb t s.stay || x) (and_right (endures mark) false refl ∙ sym (and_right (endures later) false refl))
+within_middle mark later t s n r more = grind arith
 
 module _ {A : Type 0} (none done : A) (join join' : List State → A → A) (mark later : Mark) (more : List State)
     (open' : endures mark ≡ false)
@@ -61,7 +61,7 @@ module _ {A : Type 0} (none done : A) (join join' : List State → A → A) (mar
 module _ (width largest : ℕ) (mark later : Mark) (more : List State) (open' : endures mark ≡ false) where
   over_keeps : {A : Type 0} (none done : A) (join join' : List State → A → A) → ((t : List State) (x x' : A) → Keeps none x x' → Keeps none (join t x) (join' (t ++ more) x'))
       → (w : Window) → lawful_window w ≡ true → (run : List State) → Keeps none (tour_of join done none mark w run) (tour_of join' done none later w (run ++ more))
-  over_keeps none done join join' joins w h run = tour_keeps none done join join' mark later more open' joins w.first w.last (window_order w h) run
+  over_keeps none done join join' joins w h run = grind (arith, tour_keeps, window_order)
 
   variable_keeps : (v : ℕ) (run : List State) → Keeps None (value_at run 0 v) (value_at (run ++ more) 0 v)
   variable_keeps v [] = yet
@@ -118,8 +118,7 @@ module _ (width largest : ℕ) (mark later : Mark) (more : List State) (open' : 
       over_keeps Undecided False (until_step (verdict p mark) (verdict q mark)) (until_step (verdict p later) (verdict q later)) (λ t x x' k. greater_keeps (verdict_keeps q parts.2 t) (lesser_keeps (verdict_keeps p parts.1 t) k)) w parts.0 run
 
 stays : {A : Type 0} {none x x' : A} → Keeps none x x' → (x ≡ none → ⊥) → x' ≡ x
-stays yet h = absurd (h refl)
-stays same h = refl
+stays h k = grind arith
 
 pub verdicts_stay : VerdictsStay
 verdicts_stay width largest p h mark later open' run more = stays (verdict_keeps width largest mark later more open' p h run)

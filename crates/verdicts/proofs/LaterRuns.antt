@@ -1,10 +1,9 @@
 -- Whatever feeds and closes follow, a decided verdict stays and the kept states fit the run's shape. Assumes nothing.
-use Rattle.std.proofs.Common.{◌≡◌, ℕ, zero, suc, true, false, List, [], ◌∷◌, ℤ, pos, negsuc, nat_abs, Some, None, Option, refl, ap, ◌∙◌, inl, inr, arith}
+use Rattle.std.proofs.Common.{◌≡◌, ℕ, zero, suc, true, false, List, [], ◌∷◌, ℤ, nat_abs, Some, None, Option, refl, ap, ◌∙◌, inl, inr, arith}
 use Rattle.std.specs.Int.{IsInRange}
 use Rattle.std.specs.List.{AllByRecursion}
 use Rattle.std.proofs.ByRecursion.{All-push, All-weaker}
-use Rattle.std.proofs.lemmas.Bool.Decides.{nat_tests}
-use Rattle.std.proofs.lemmas.Bool.{cases_Bool, false≢true}
+use Rattle.std.proofs.lemmas.Bool.{cases_Bool}
 use Rattle.runs.proofs.LastingRuns.{lasting}
 use Rattle.runs.proofs.TakenStates.{taken_lawful}
 use Rattle.runs.specs.Calls.{Step, after_steps, closes, feeds, stepped}
@@ -13,7 +12,7 @@ use Rattle.runs.specs.Offers.{Offered}
 use Rattle.runs.specs.Runs.{Lawful, Meaning, Run, State, ended, endures}
 use Rattle.runs.specs.declared.refusal.Refusal.{Refusal}
 use Rattle.runs.specs.declared.shape.Mark.{Mark}
-use Rattle.runs.specs.declared.shape.Mark.TheVariants.{Open, Closed}
+use Rattle.runs.specs.declared.shape.Mark.TheVariants.{Closed}
 use Rattle.runs.specs.declared.shape.Shape.{Shape}
 use Rattle.verdicts.proofs.GrowingRuns.{verdicts_stay}
 use Rattle.verdicts.specs.Begins.{Fits}
@@ -22,8 +21,7 @@ use Rattle.verdicts.specs.Verdicts.{verdict}
 
 -- a last state that endures ends its run
 not_enduring : (mark : Mark) → ended mark ≡ false → endures mark ≡ false
-not_enduring Open h = refl
-not_enduring Closed h = h
+not_enduring mark h = grind arith
 
 pub verdicts_last : VerdictsLast
 verdicts_last width largest p h most m steps decided =
@@ -37,15 +35,8 @@ verdicts_last width largest p h most m steps decided =
 pub lawful_fits : (shape : Shape) (largest : ℕ) (states : List State) → AllByRecursion (Lawful shape largest) states → AllByRecursion (Fits shape) states
 lawful_fits shape largest states lawful = All-weaker (Lawful shape largest) (Fits shape) (λ s l. record { stay = l.stay; values = l.values }) states lawful
 
-stay_fits : (longest : ℕ) (stay : ℤ) → stay_within longest stay ≡ true → IsInRange 1 longest (nat_abs stay)
-stay_fits longest (pos n) h = grind (arith, nat_tests, h)
-stay_fits longest (negsuc n) h = absurd (false≢true h)
-
 offered_fits : (shape : Shape) (most : ℕ) (o : Offered) → unlawful shape most o ≡ None → Fits shape (state_of o)
-offered_fits shape most o e = record {
-  stay = stay_fits shape.longest o.stay (grind (arith, nat_tests, e));
-  values = grind (arith, nat_tests, e);
-}
+offered_fits shape most o e = grind arith
 
 module _ (most : ℕ) where
   abbrev AllFit : Meaning → Type 0
@@ -56,17 +47,13 @@ module _ (most : ℕ) where
   kept_fits s (suc n) run fits all = all
 
   fed_fits : (refused : Option Refusal) (o : Offered) (m : Meaning) → (refused ≡ None → Fits m.run.shape (state_of o)) → AllFit m → AllFit (fed refused o m)
-  fed_fits (Some r) o m fits all = all
-  fed_fits None o m fits all = kept_fits (state_of o) m.lead m.run (fits refl) all
+  fed_fits refused o m fits all = grind (arith, kept_fits)
 
   closed_fits : (o : Option Refusal) (m : Meaning) (mark : Mark) → AllFit m → AllFit (after o m (record { run = record { shape = m.run.shape; states = m.run.states; mark = mark }; lead = m.lead }))
-  closed_fits (Some r) m mark all = all
-  closed_fits None m mark all = all
+  closed_fits o m mark all = grind arith
 
   stepped_fits : (s : Step) (m : Meaning) → AllFit m → AllFit (stepped most s m)
-  stepped_fits (feeds free need o) m all =
-      fed_fits (feed_refusal most free need m o) o m (λ taken. offered_fits m.run.shape most o (taken_lawful most free need m o taken)) all
-  stepped_fits closes m all = closed_fits (close_refusal m) m Closed all
+  stepped_fits s m all = grind (arith, fed_fits, offered_fits, taken_lawful, closed_fits)
 
 pub states_fit : StatesFit
 states_fit most m all [] = all

@@ -1,8 +1,8 @@
 -- To which state a moment belongs, told state by state from the first one on. Assumes nothing.
-use Rattle.std.proofs.Common.{◌≡◌, ℕ, zero, suc, ◌+◌, ◌-◌, ◌<◌, ◌≤◌, true, false, leb, List, [], ◌∷◌, length, take, drop, refl, ap, inl, inr, arith}
+use Rattle.std.proofs.Common.{◌≡◌, ℕ, zero, suc, ◌+◌, ◌-◌, ◌<◌, ◌≤◌, true, false, leb, List, [], ◌∷◌, length, take, drop, ap, inl, inr, arith}
 use Rattle.std.proofs.lemmas.List.{length-drop}
 use Rattle.std.proofs.lemmas.List.Sums.{sum_by-cons}
-use Rattle.std.proofs.lemmas.Bool.{and_from, and_parts, false≢true, le-leb, leb-false, leb-true, or_cases, or_left, or_parts, or_right}
+use Rattle.std.proofs.lemmas.Bool.{and_from, and_parts, le-leb, leb-false, leb-true, or_cases, or_left, or_parts, or_right}
 use Rattle.runs.specs.Moments.{Belongs}
 use Rattle.runs.specs.Runs.{State, endures, ticks}
 use Rattle.runs.specs.declared.shape.Mark.{Mark}
@@ -11,10 +11,7 @@ use Rattle.verdicts.specs.Tours.{is_last, within}
 
 -- a later moment within a state has the earlier ones there or before
 pub within_order : (mark : Mark) (a b : ℕ) (s : State) (r : List State) → a ≤ b → within mark b s r ≡ true → within mark a s r ≡ true
-within_order mark a b s r h e = elim (or_cases (leb b s.stay) _ e) [
-  | inl e' ↦ or_left (leb a s.stay) _ (le-leb a s.stay (omega (arith, leb-true b s.stay e')))
-  | inr e' ↦ or_right (leb a s.stay) _ e'
-]
+within_order mark a b s r h e = grind arith
 
 pub not_within : (mark : Mark) (t : ℕ) (s : State) (r : List State) → within mark t s r ≡ false → s.stay < t
 not_within mark t s r h = leb-false t s.stay (or_parts (leb t s.stay) _ h).0
@@ -32,12 +29,10 @@ later_end s r k = let outer : suc (suc k) - 0 ≡ suc (suc k) = omega arith in l
     rw (outer, inner) (sum_by-cons (λ (x : State). x.stay) s (take (suc k) r))
 
 last_from_length : (r : List State) → 1 ≡ length r + 1 → is_last r ≡ true
-last_from_length [] h = refl
-last_from_length (n ∷ r) h = absurd (omega arith)
+last_from_length r h = grind arith
 
 length_from_last : (r : List State) → is_last r ≡ true → length r ≡ 0
-length_from_last [] h = refl
-length_from_last (n ∷ r) h = absurd (false≢true h)
+length_from_last r h = grind arith
 
 pub belongs_owns : (mark : Mark) (t : ℕ) (run : List State) (j : ℕ) → Belongs mark run 0 t j → Owns mark t run j
 belongs_owns mark t [] j b = absurd (omega (arith, b.there))

@@ -17,7 +17,6 @@ use Rattle.runs.specs.declared.shape.Mark.{Mark}
 use Rattle.runs.specs.declared.shape.Shape.{Shape}
 use Rattle.verdicts.proofs.ClosedRuns.{two_valued}
 use Rattle.verdicts.proofs.LawfulFormulas.{binary_parts, compare_parts, joined_parts, over_parts, prefixed_parts, unary_parts}
-use Rattle.verdicts.proofs.VerdictOrder.{false≢undecided, true≢undecided}
 use Rattle.verdicts.proofs.OwnedMoments.{not_within}
 use Rattle.verdicts.specs.Arithmetic.{compares, of_many, of_one, of_two}
 use Rattle.verdicts.specs.Begins.{Fits}
@@ -50,20 +49,16 @@ settled_compared c (known x) (known y) = by_test (compares c x y)
     by_test false = as_false
 
 settled_swap : {v : Verdict} → Settled v → Settled (swap v)
-settled_swap as_false = as_true
-settled_swap as_true = as_false
+settled_swap h = grind (arith, as_false, as_true)
 
 settled_lesser : {v w : Verdict} → Settled v → Settled w → Settled (lesser v w)
-settled_lesser as_false k = as_false
-settled_lesser as_true k = k
+settled_lesser h k = grind arith
 
 settled_greater : {v w : Verdict} → Settled v → Settled w → Settled (greater v w)
-settled_greater as_false k = k
-settled_greater as_true k = as_true
+settled_greater h k = grind arith
 
 settled_decided : {v : Verdict} → Settled v → v ≡ Undecided → ⊥
-settled_decided as_false e = false≢undecided e
-settled_decided as_true e = true≢undecided e
+settled_decided h e = grind arith
 
 ticks_cons : (s : State) (r : List State) → ticks (s ∷ r) ≡ s.stay + ticks r
 ticks_cons s r = sum_by-cons (λ (x : State). x.stay) s r
@@ -72,10 +67,7 @@ ticks_cons s r = sum_by-cons (λ (x : State). x.stay) s r
 module _ {A : Type 0} (Q : A → Type 0) (F : State → Type 0) (join : List State → A → A) (done cut : A) (mark : Mark) (needed : ℕ) (some : 1 ≤ needed) (ends : Q done)
     (joins : (t : List State) → AllByRecursion F t → needed ≤ ticks t → (x : A) → Q x → Q (join t x)) where
   toured_reached : (begun ended : Bool) (t : List State) (x : A) → AllByRecursion F t → needed ≤ ticks t → (ended ≡ false → Q x) → Q (tour_at begun ended (join t) done x)
-  toured_reached true true t x fits enough rest = joins t fits enough done ends
-  toured_reached true false t x fits enough rest = joins t fits enough x (rest refl)
-  toured_reached false true t x fits enough rest = ends
-  toured_reached false false t x fits enough rest = rest refl
+  toured_reached begun ended t x fits enough rest = grind arith
 
   tour_reached : (a b : ℕ) (run : List State) → AllByRecursion F run → needed + b ≤ ticks run → Q (tour join done cut mark a b run)
   tour_reached a b [] fits enough = absurd (omega arith)
@@ -127,16 +119,11 @@ module _ (shape : Shape) (largest : ℕ) (mark : Mark) where
       (λ t fits' enough' x k. known_both ◌∷◌ (value_reached true m parts.2 t fits' (omega (arith, windowless_reach m parts.2))) k) w.first w.last run fits (omega arith))
 
   further_reached : (said : List State → Verdict) (t : List State) → 1 ≤ ticks t → Settled (said t) → Settled (further mark said t)
-  further_reached said [] some h = absurd (omega arith)
-  further_reached said (s ∷ r) some h = h
+  further_reached said t some h = grind arith
 
   rises_reached : (c : Comparator) (m n : List State → Option ℤ) (needed : ℕ) → 1 ≤ needed → ((t : List State) → AllByRecursion (Fits shape) t → needed ≤ ticks t → Known (m t)) → ((t : List State) → AllByRecursion (Fits shape) t → needed ≤ ticks t → Known (n t))
       → (run : List State) → AllByRecursion (Fits shape) run → needed + shape.longest ≤ ticks run → Settled (rises c m n mark run)
-  rises_reached c m n needed some m_known n_known [] fits enough = absurd (omega arith)
-  rises_reached c m n needed some m_known n_known (s ∷ r) fits enough =
-      let rest : needed ≤ ticks r = omega (arith, ticks_cons s r, fits.0.stay.1) in
-      further_reached (rise c m n s r) r (omega arith)
-      (settled_compared c (known_both ◌-ℤ◌ (m_known r fits.1 rest) (m_known (s ∷ r) fits (omega arith))) (known_mapped (λ x. x *ℤ pos s.stay) (n_known (s ∷ r) fits (omega arith))))
+  rises_reached c m n needed some m_known n_known run fits enough = grind (arith, ticks_cons, further_reached, settled_compared, known_both, known_mapped)
 
   verdict_reached : (p : Property) → lawful shape.width largest p ≡ true → (run : List State) → AllByRecursion (Fits shape) run → reach_of shape.longest p ≤ ticks run → Settled (verdict p mark run)
   verdict_reached (compare c Value m n) h run fits enough =

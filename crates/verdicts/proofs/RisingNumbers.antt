@@ -18,13 +18,10 @@ rising_suc (j ∷ js) h = (λ k m. let found = among_suc k js m in omega (arith,
 
 -- the first number of each list is among the other's, so neither is below the other
 same_first : (j k : ℕ) (js ks : List ℕ) → Rising (j ∷ js) → Rising (k ∷ ks) → Among j (k ∷ ks) → Among k (j ∷ js) → j ≡ k
-same_first j k js ks rj rk (inl e) m = e
-same_first j k js ks rj rk (inr m) (inl e) = sym e
-same_first j k js ks rj rk (inr m) (inr n) = absurd (omega (arith, rk.0 j m, rj.0 k n))
+same_first j k js ks rj rk h e = grind arith
 
 among_rest : (i j k : ℕ) (ks : List ℕ) → j ≡ k → j < i → Among i (k ∷ ks) → Among i ks
-among_rest i j k ks same below (inl e) = absurd (omega arith)
-among_rest i j k ks same below (inr m) = m
+among_rest i j k ks same below h = grind arith
 
 pub same_rising : (js ks : List ℕ) → Rising js → Rising ks → ((j : ℕ) → Among j js → Among j ks) → ((j : ℕ) → Among j ks → Among j js) → js ≡ ks
 same_rising [] [] rj rk into back = refl

@@ -12,33 +12,23 @@ pub data Told (P : Type 0) : Verdict → Type 0 where
   wrong : (P → ⊥) → Told P False
 
 pub told_as : {P Q : Type 0} {v : Verdict} → (P → Q) → (Q → P) → Told P v → Told Q v
-told_as into back (right x) = right (into x)
-told_as into back (wrong f) = wrong (λ y. f (back y))
+told_as into back h = grind (arith, right, wrong)
 
 pub told_not : {P : Type 0} {v : Verdict} → Told P v → Told (P → ⊥) (swap v)
-told_not (right x) = wrong (λ f. f x)
-told_not (wrong f) = right f
+told_not h = grind (arith, right, wrong)
 
 pub told_and : {P Q : Type 0} {v w : Verdict} → Told P v → Told Q w → Told (P × Q) (lesser v w)
-told_and (right x) (right y) = right (x, y)
-told_and (right x) (wrong g) = wrong (λ both. g both.1)
-told_and (wrong f) k = wrong (λ both. f both.0)
+told_and h k = grind (arith, right, wrong)
 
 pub told_or : {P Q : Type 0} {v w : Verdict} → Told P v → Told Q w → Told (P ⊎ Q) (greater v w)
-told_or (right x) k = right (inl x)
-told_or (wrong f) (right y) = right (inr y)
-told_or (wrong f) (wrong g) = wrong (λ either. elim either [ inl x ↦ f x | inr y ↦ g y ])
+told_or h k = grind (arith, right, wrong)
 
 -- what some, what every one of some states satisfies, and until along them
 told_some : {P : ℕ → Type 0} {v w : Verdict} (j : ℕ) (js : List ℕ) → Told (P j) v → Told ((k : ℕ) × Among k js × P k) w → Told ((k : ℕ) × Among k (j ∷ js) × P k) (greater v w)
-told_some j js (right x) rest = right (j, inl refl, x)
-told_some j js (wrong f) (right y) = right (y.0, inr y.1, y.2)
-told_some {P} j js (wrong f) (wrong g) = wrong (λ found. elim found.1 [ inl e ↦ f (subst P e found.2) | inr m ↦ g (found.0, m, found.2) ])
+told_some j js h k = grind (arith, right, wrong)
 
 told_every : {P : ℕ → Type 0} {v w : Verdict} (j : ℕ) (js : List ℕ) → Told (P j) v → Told ((k : ℕ) → Among k js → P k) w → Told ((k : ℕ) → Among k (j ∷ js) → P k) (lesser v w)
-told_every {P} j js (right x) (right each) = right (λ k m. elim m [ inl e ↦ subst P (sym e) x | inr n ↦ each k n ])
-told_every j js (right x) (wrong g) = wrong (λ each. g (λ k n. each k (inr n)))
-told_every j js (wrong f) rest = wrong (λ each. f (each j (inl refl)))
+told_every j js h k = grind (arith, right, wrong)
 
 abbrev pub UntilAmong : (ℕ → Type 0) → (ℕ → Type 0) → List ℕ → Type 0
 UntilAmong P Q js = (k : ℕ) × Among k js × Q k × ((j : ℕ) → j < k → Among j js → P j)

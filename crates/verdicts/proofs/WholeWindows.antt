@@ -1,5 +1,5 @@
 -- A window is whole where its last moment has a state, and so always on a closed run. Assumes nothing.
-use Rattle.std.proofs.Common.{◌≡◌, ℕ, zero, suc, ◌-◌, ◌<◌, Bool, true, false, ◌||◌, leb, List, [], ◌∷◌, length, sym, refl, ap, ◌∙◌, inl, inr, arith}
+use Rattle.std.proofs.Common.{◌≡◌, ℕ, zero, suc, ◌-◌, ◌<◌, Bool, true, ◌||◌, leb, List, [], ◌∷◌, length, sym, refl, ap, ◌∙◌, inl, inr, arith}
 use Rattle.std.proofs.lemmas.Bool.{and_from, cases_Bool, false≢true, or_left, or_right}
 use Rattle.runs.specs.Runs.{State, endures}
 use Rattle.runs.specs.declared.shape.Mark.{Mark}
@@ -9,10 +9,7 @@ use Rattle.verdicts.specs.Tours.{tour_at, within}
 use Rattle.verdicts.proofs.VisitedStates.{whole_from}
 
 whole_toured : (begun ended told : Bool) → tour_at begun ended (λ x. x) true told ≡ (ended || told)
-whole_toured true true told = refl
-whole_toured true false told = refl
-whole_toured false true told = refl
-whole_toured false false told = refl
+whole_toured begun ended told = grind arith
 
 whole_owned : (mark : Mark) (a b : ℕ) (run : List State) → whole_from mark a b run ≡ true → (j : ℕ) × Owns mark b run j
 whole_owned mark a b [] h = absurd (false≢true h)
