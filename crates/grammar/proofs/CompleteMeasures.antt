@@ -12,8 +12,8 @@ use Rattle.grammar.specs.Reading.{Reader, first, call, measure_at, measure, unar
 use Rattle.grammar.specs.Steps.{Rules, Step, unless, plain, nesting, ending, leaf, window_steps, call_steps, measure_steps}
 use Rattle.grammar.specs.Trees.{MeasureTree, numeral, variable, unary, binary, over}
 use Rattle.grammar.proofs.CompleteTokens.{Gives, it_does, if_true, made_gives, then_gives, by_first, gives_brought, gives_mark, gives_opening, gives_window}
-use Rattle.grammar.proofs.Keeping.{kept, opened, unless_none}
-use Rattle.grammar.proofs.Spelling.{Spelled, none, more}
+use Rattle.grammar.proofs.Keeping.{opened, unless_none}
+use Rattle.grammar.proofs.Spelling.{Spelled, more}
 use Rattle.grammar.proofs.TokenReaders.{none_left, deeper}
 
 -- a reader that reads each measure inside so many nestings

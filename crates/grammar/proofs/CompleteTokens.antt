@@ -6,7 +6,7 @@ use Rattle.tokens.specs.declared.words.PrefixSign.{PrefixSign}
 use Rattle.tokens.specs.declared.words.Punctuation.{Punctuation}
 use Rattle.tokens.specs.declared.words.Punctuation.TheVariants.{Open, OpenWindow, CloseWindow, Comma}
 use Rattle.tokens.specs.declared.words.Sign.{Sign}
-use Rattle.tokens.specs.declared.words.Sign.TheVariants.{Unsigned, Plus, Minus}
+use Rattle.tokens.specs.declared.words.Sign.TheVariants.{Unsigned}
 use Rattle.grammar.specs.Faults.{broken_by}
 use Rattle.grammar.specs.Layers.{LeadText}
 use Rattle.grammar.specs.Reading.{Outcome, got, Reader, and_then, first, is_mark, bring, punctuation, opening, signed_numeral, window_numeral, index_numeral, first_moment, last_moment, index_by, window, lead, link}

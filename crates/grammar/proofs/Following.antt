@@ -1,5 +1,5 @@
 -- One reader follows another: where the other reads, it reads the same, and where the other says that a token cannot follow, it says so too; and it looks no further than that token. One reader after another follows if each does.
-use Rattle.std.proofs.Common.{◌≡◌, ℕ, Bool, true, false, cond, List, [], ◌∷◌, ◌++◌, sym, refl, ap, ◌∙◌, append_assoc, arith}
+use Rattle.std.proofs.Common.{◌≡◌, ℕ, Bool, true, cond, List, [], ◌∷◌, ◌++◌, sym, refl, ap, ◌∙◌, append_assoc, arith}
 use Rattle.tokens.specs.Tokens.{Tok, Spot}
 use Rattle.grammar.specs.Reading.{Outcome, got, fault, Reader, and_then, first, rest, refuse}
 

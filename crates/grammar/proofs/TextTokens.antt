@@ -2,7 +2,6 @@
 use Rattle.std.proofs.Common.{◌≡◌, ℕ, suc, Bool, true, false, List, [], ◌∷◌, ◌++◌, sym, refl, ap, ◌∙◌, ap₂, arith}
 use mathlib.Core.List.{map-append}
 use Rattle.parts.specs.declared.kinds.Quantity.{Quantity}
-use Rattle.parts.specs.declared.kinds.Quantity.TheVariants.{Value, Change}
 use Rattle.tokens.specs.Tokens.{Tok, mark, change, comparator, is_stop}
 use Rattle.tokens.specs.Tokens as token
 use Rattle.tokens.specs.declared.words.Punctuation.TheVariants.{Open, Comma}
@@ -10,7 +9,7 @@ use Rattle.grammar.specs.Derivations.{window_tokens, bracket_tokens}
 use Rattle.grammar.specs.Laws.{IsToken}
 use Rattle.grammar.specs.Layers.{MeasureText, a_numeral, a_variable, a_unary, a_binary, a_statistic, PropertyText, a_comparison, a_prefix, a_bracket, tighter, a_link, lead_tokens, link_tokens, change_tokens}
 use Rattle.grammar.specs.Steps.{Rules, Step, plain, bringing, window_steps, lead_steps, link_steps, left_steps, measure_steps, property_steps}
-use Rattle.grammar.specs.Trees.{MeasureTree, Lead, negation, next, skipping, eventually, always, Link, and, or, implies, iff, until, PropertyTree}
+use Rattle.grammar.specs.Trees.{MeasureTree, Lead, Link, PropertyTree}
 use Rattle.grammar.proofs.Spelling.{step_tokens}
 
 joined_tokens : {ts us : List Tok} (xs ys : List Step) → step_tokens xs ≡ ts → step_tokens ys ≡ us → step_tokens (xs ++ ys) ≡ ts ++ us
