@@ -13,9 +13,6 @@ use Rattle.grammar.specs.Trees.{skipping}
 pub mark_is : (p : Punctuation) (t : Tok) → is_mark p t ≡ true → t ≡ mark p
 mark_is p t e = grind arith
 
-pub stop_is : (t : Tok) → is_stop t ≡ true → t ≡ stop
-stop_is t e = grind arith
-
 pub signed_numeral_is : (t : Tok) (k : Sign × ℕ) → signed_numeral t ≡ Some k → t ≡ numeral k.0 k.1
 signed_numeral_is t k e = grind arith
 

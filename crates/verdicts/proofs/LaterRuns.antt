@@ -30,9 +30,6 @@ verdicts_last width largest p h most m steps decided =
           ∙ verdicts_stay width largest p h m.run.mark (after_steps most steps m).run.mark (not_enduring m.run.mark e) m.run.states later.states.0 decided
     ]
 
-pub lawful_fits : (shape : Shape) (largest : ℕ) (states : List State) → AllByRecursion (Lawful shape largest) states → AllByRecursion (Fits shape) states
-lawful_fits shape largest states lawful = All-weaker (Lawful shape largest) (Fits shape) (λ s l. record { stay = l.stay; values = l.values }) states lawful
-
 offered_fits : (shape : Shape) (most : ℕ) (o : Offered) → unlawful shape most o ≡ None → Fits shape (state_of o)
 offered_fits shape most o e = grind arith
 
