@@ -89,4 +89,4 @@ pub meant : (ps : List Part) (ns : List Node) (i : ℕ) (part : Part) → nodes 
 meant ps ns i part e at = rw (← zero-add i) (meant_behind ps [] ns i part e at)
 
 pub as_many_nodes : (ps : List Part) (ns : List Node) → nodes ps ≡ Some ns → length ns ≡ length ps
-as_many_nodes ps ns e = let h = nodes_more ps [] ns e in ap length h.1 ∙ h.2
+as_many_nodes ps ns e = grind (arith, nodes_more)
