@@ -58,5 +58,5 @@ module _ {rules : Rules} where
 
   pub gives_measure : (d left : ℕ) → d + left ≡ rules.nesting → (inside : Bool) → GivesMeasures rules d inside (measure rules left inside)
   unfolding measure
-  gives_measure d zero deep inside ts m n n' s s' t w = gives_measure_at d zero inside (λ _ n s. reading.refuse 2 s) deep (λ l. absurd (none_left l)) ts m n n' s s' t w
+  gives_measure d zero deep inside ts m n n' s s' t w = grind (arith, gives_measure_at, none_left)
   gives_measure d (suc left) deep inside ts m n n' s s' t w = gives_measure_at d (suc left) inside (measure rules left) deep (λ _ b. gives_measure (suc d) left (deeper d left deep) b) ts m n n' s s' t w

@@ -71,4 +71,4 @@ module _ {A : Type 0} where
   rule_follows b number place t ne f = grind (arith, breaks)
 
   pub passing_follows : {b : Bool} {q : List Spot → Outcome A} (r : List Spot → Outcome A) {s : List Spot} {o : Outcome A} → b ≡ true → Follows q s o → Follows (λ t. cond b (q t) (r t)) s o
-  passing_follows {q} r e f = follows_as (λ t. ap (λ (c : Bool). cond c (q t) (r t)) e) f
+  passing_follows {q} r e f = grind (arith, follows_as)
