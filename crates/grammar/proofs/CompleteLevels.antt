@@ -16,10 +16,10 @@ use Rattle.grammar.proofs.WindowReaders.{Linked, linked_by, linked_steps, linked
 -- a connective ends what is bound more tightly
 ends_connective : (level : ℕ) (x : ConnectiveSign) → level < sign_level x → Ends level (connective x)
 ends_connective zero x h = tt
-ends_connective (suc level) x h = (ap (λ (b : Bool). cond b (Some x) None) (ne_eqb (sign_level x) (suc level) (λ e. omega arith)), ends_connective level x (omega arith))
+ends_connective (suc level) x h = grind (arith, ne_eqb, ends_connective level x (omega arith))
 
 sign_of_level : (level : ℕ) (x : ConnectiveSign) → sign_level x ≡ level → at_level level x ≡ Some x
-sign_of_level level x e = ap (λ (b : Bool). cond b (Some x) None) (eq-eqb (sign_level x) level e)
+sign_of_level level x e = grind (arith, eq-eqb)
 
 shorter : {rules : Rules} {n n' : ℕ} {s s' : List Spot} {xs : List Step} → Spelled rules n s xs n' s' → length s' ≤ length s
 shorter {s} none = le_refl (length s)

@@ -12,8 +12,8 @@ use Rattle.grammar.specs.Reading.{Reader, first, call, measure_at, measure, unar
 use Rattle.grammar.specs.Steps.{Rules, Step, unless, plain, nesting, ending, leaf, window_steps, call_steps, measure_steps}
 use Rattle.grammar.specs.Trees.{MeasureTree, numeral, variable, unary, binary, over}
 use Rattle.grammar.proofs.CompleteTokens.{Gives, it_does, if_true, made_gives, then_gives, by_first, gives_brought, gives_mark, gives_opening, gives_window}
-use Rattle.grammar.proofs.Keeping.{kept, opened, unless_none}
-use Rattle.grammar.proofs.Spelling.{Spelled, none, more}
+use Rattle.grammar.proofs.Keeping.{opened, unless_none}
+use Rattle.grammar.proofs.Spelling.{Spelled, more}
 use Rattle.grammar.proofs.TokenReaders.{none_left, deeper}
 
 -- a reader that reads each measure inside so many nestings
@@ -58,5 +58,5 @@ module _ {rules : Rules} where
 
   pub gives_measure : (d left : ℕ) → d + left ≡ rules.nesting → (inside : Bool) → GivesMeasures rules d inside (measure rules left inside)
   unfolding measure
-  gives_measure d zero deep inside ts m n n' s s' t w = gives_measure_at d zero inside (λ _ n s. reading.refuse 2 s) deep (λ l. absurd (none_left l)) ts m n n' s s' t w
+  gives_measure d zero deep inside ts m n n' s s' t w = grind (arith, gives_measure_at, none_left)
   gives_measure d (suc left) deep inside ts m n n' s s' t w = gives_measure_at d (suc left) inside (measure rules left) deep (λ _ b. gives_measure (suc d) left (deeper d left deep) b) ts m n n' s s' t w

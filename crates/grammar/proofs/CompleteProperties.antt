@@ -1,5 +1,5 @@
 -- The readers of comparisons and operands read every operand that is spelled and breaks no rule.
-use Rattle.std.proofs.Common.{◌≡◌, ℕ, zero, suc, pred, ◌+◌, Bool, true, false, ◌&&◌, ltb, List, [], ◌∷◌, ◌++◌, None, sym, refl, subst, ap₂, append_assoc, arith}
+use Rattle.std.proofs.Common.{◌≡◌, ℕ, zero, suc, pred, ◌+◌, Bool, true, false, ltb, List, [], ◌∷◌, ◌++◌, None, sym, refl, subst, append_assoc, arith}
 use Rattle.parts.specs.declared.kinds.Comparator.{Comparator}
 use Rattle.parts.specs.declared.kinds.Quantity.{Quantity}
 use Rattle.parts.specs.declared.kinds.Quantity.TheVariants.{Value, Change}
@@ -13,9 +13,9 @@ use Rattle.grammar.specs.Steps.{Rules, Step, plain, bringing, nesting, leading, 
 use Rattle.grammar.specs.Trees.{MeasureTree, Lead, PropertyTree, compare, prefixed, bracketed}
 use Rattle.grammar.proofs.CompleteMeasures.{gives_measure}
 use Rattle.grammar.proofs.CompleteTokens.{Gives, it_does, if_true, made_gives, ahead_gives, then_gives, by_first, gives_brought, gives_mark, gives_opening, gives_lead}
-use Rattle.grammar.proofs.Keeping.{kept, left_for, opened}
+use Rattle.grammar.proofs.Keeping.{left_for, opened}
 use Rattle.grammar.proofs.PropertyReaders.{deeper_behind, prefixed_steps}
-use Rattle.grammar.proofs.Spelling.{Spelled, none, more, part, respelled}
+use Rattle.grammar.proofs.Spelling.{Spelled, more, part, respelled}
 use Rattle.grammar.proofs.WindowReaders.{Led, led_by, lead_rest}
 
 -- no connective of this level or a tighter one

@@ -6,7 +6,7 @@ use Rattle.tokens.specs.declared.words.PrefixSign.{PrefixSign}
 use Rattle.tokens.specs.declared.words.Punctuation.{Punctuation}
 use Rattle.tokens.specs.declared.words.Punctuation.TheVariants.{Open, OpenWindow, CloseWindow, Comma}
 use Rattle.tokens.specs.declared.words.Sign.{Sign}
-use Rattle.tokens.specs.declared.words.Sign.TheVariants.{Unsigned, Plus, Minus}
+use Rattle.tokens.specs.declared.words.Sign.TheVariants.{Unsigned}
 use Rattle.grammar.specs.Faults.{broken_by}
 use Rattle.grammar.specs.Layers.{LeadText}
 use Rattle.grammar.specs.Reading.{Outcome, got, Reader, and_then, first, is_mark, bring, punctuation, opening, signed_numeral, window_numeral, index_numeral, first_moment, last_moment, index_by, window, lead, link}
@@ -28,10 +28,10 @@ pub made_gives : {A B : Type 0} {a : A} {b : B} {n n' : ℕ} {s s' : List Spot} 
 made_gives f it_does g = g
 
 pub if_true : {A : Type 0} {a : A} {n : ℕ} {s : List Spot} {b : Bool} {o : Outcome A} (other : Outcome A) → b ≡ true → Gives a n s o → Gives a n s (cond b o other)
-if_true {a} {n} {s} {o} other e g = subst (λ (c : Bool). Gives a n s (cond c o other)) (sym e) g
+if_true {a} {n} {s} {o} other e g = grind arith
 
 if_false : {A : Type 0} {a : A} {n : ℕ} {s : List Spot} {b : Bool} {o : Outcome A} (other : Outcome A) → b ≡ false → Gives a n s o → Gives a n s (cond b other o)
-if_false {a} {n} {s} {o} other e g = subst (λ (c : Bool). Gives a n s (cond c other o)) (sym e) g
+if_false {a} {n} {s} {o} other e g = grind arith
 
 own_mark : (p : Punctuation) → is_mark p (mark p) ≡ true
 own_mark p = grind arith
@@ -63,7 +63,7 @@ module _ {rules : Rules} where
   gives_opening d left deep h = grind (arith, if_true, left_for, it_does)
 
   gives_first_moment : (a : ℕ) {n n' : ℕ} {s s' : List Spot} → Spelled rules n s (limited (numeral Unsigned a) (unless (rules.numeral a) 3) ∷ []) n' s' → Gives a n' s' (first_moment rules (window_numeral (signed_numeral (first s).tok)) n s)
-  gives_first_moment a {n} (more {x} e none) = if_true _ (unless_none (rules.numeral a) 3 (kept rules n x e).0) it_does
+  gives_first_moment a {n} (more {x} e none) = grind (arith, if_true, unless_none, it_does)
 
   gives_last_moment : (a b : ℕ) {n n' : ℕ} {s s' : List Spot} → Spelled rules n s (limited (numeral Unsigned b) (or_else (unless (rules.numeral b) 3) (unless (rules.order a b) 4)) ∷ []) n' s' → Gives b n' s' (last_moment rules a (window_numeral (signed_numeral (first s).tok)) n s)
   gives_last_moment a b h = grind (arith, none_or, if_true, unless_none, it_does)

@@ -20,8 +20,8 @@ module _ {rules : Rules} where
   none_broken {n} i (more {x} {xs} e p) = first_broken_step rules n x xs i e ∙ none_broken (suc i) p
 
   pub broken_behind : {n n' number : ℕ} {s s' : List Spot} {xs : List Step} (x : Step) (left : List Step) (i : ℕ) → Spelled rules n s xs n' s' → broken_by rules n' x ≡ Some number → first_broken rules n (xs ++ (x ∷ left)) i ≡ Some (number, i + length xs)
-  broken_behind {n} {number} x left i none b = first_broken_step rules n x left i b ∙ ap (λ (k : ℕ). Some (number, k)) (sym (add-zero i))
-  broken_behind {n} {number} x left i (more {x = y} {xs} e p) b = first_broken_step rules n y (xs ++ (x ∷ left)) i e ∙ broken_behind x left (suc i) p b ∙ ap (λ (k : ℕ). Some (number, k)) (suc-add i (length xs) ∙ sym (add-suc i (length xs)))
+  broken_behind {n} {number} x left i none b = grind (arith, first_broken_step, add-zero)
+  broken_behind {n} {number} x left i (more {x = y} {xs} e p) b = grind (arith, first_broken_step, suc-add, add-suc, broken_behind x left (suc i) p b)
 
   -- a text with these tokens spells the steps, if none of them breaks a rule
   pub spelled : (ts : List Spot) (s : List Spot) (xs : List Step) (n i : ℕ) → toks ts ≡ step_tokens xs → first_broken rules n xs i ≡ None → (n' : ℕ) × Spelled rules n (ts ++ s) xs n' s

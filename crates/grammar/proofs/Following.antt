@@ -1,5 +1,5 @@
 -- One reader follows another: where the other reads, it reads the same, and where the other says that a token cannot follow, it says so too; and it looks no further than that token. One reader after another follows if each does.
-use Rattle.std.proofs.Common.{◌≡◌, ℕ, Bool, true, false, cond, List, [], ◌∷◌, ◌++◌, sym, refl, ap, ◌∙◌, append_assoc, arith}
+use Rattle.std.proofs.Common.{◌≡◌, ℕ, Bool, true, cond, List, [], ◌∷◌, ◌++◌, sym, refl, ap, ◌∙◌, append_assoc, arith}
 use Rattle.tokens.specs.Tokens.{Tok, Spot}
 use Rattle.grammar.specs.Reading.{Outcome, got, fault, Reader, and_then, first, rest, refuse}
 
@@ -71,4 +71,4 @@ module _ {A : Type 0} where
   rule_follows b number place t ne f = grind (arith, breaks)
 
   pub passing_follows : {b : Bool} {q : List Spot → Outcome A} (r : List Spot → Outcome A) {s : List Spot} {o : Outcome A} → b ≡ true → Follows q s o → Follows (λ t. cond b (q t) (r t)) s o
-  passing_follows {q} r e f = follows_as (λ t. ap (λ (c : Bool). cond c (q t) (r t)) e) f
+  passing_follows {q} r e f = grind (arith, follows_as)

@@ -30,7 +30,7 @@ leb_left d left = grind arith
 module _ (rules : Rules) where
   -- a step that brings no more than there is room for is judged by its own rule
   pub judged : (n : ℕ) (x : Step) → Room rules (brought_by n x) → Within rules x.depth → broken_by rules n x ≡ x.breaks
-  judged n x r w = ap₂ (λ (a b : Bool). or_else x.breaks (unless (a && b) 6)) r w ∙ or_none x.breaks
+  judged n x r w = grind (arith, or_none)
 
   pub flat : Within rules 0
   flat = leb-zero rules.nesting
@@ -45,7 +45,7 @@ module _ (rules : Rules) where
   bringing_judged n t = grind arith
 
   pub nesting_judged : (n d : ℕ) (t : Tok) → Room rules n → broken_by rules n (nesting d t) ≡ unless (leb d rules.nesting) 6
-  nesting_judged n d t r = ap (λ (b : Bool). unless (b && leb d rules.nesting) 6) r
+  nesting_judged n d t r = grind arith
 
   -- what a step that breaks no rule keeps
   pub kept : (n : ℕ) (x : Step) → broken_by rules n x ≡ None → (x.breaks ≡ None) × Room rules (brought_by n x) × Within rules x.depth

@@ -22,7 +22,7 @@ Keeps rules x = (x.breaks ≡ None) × (x.depth ≤ rules.nesting)
 
 pub all_split : {X : Type 0} (P : X → Type 0) (xs ys : List X) → AllByRecursion P (xs ++ ys) → AllByRecursion P xs × AllByRecursion P ys
 all_split P [] ys h = (tt, h)
-all_split P (x ∷ xs) ys h = let rest = all_split P xs ys h.1 in ((h.0, rest.0), rest.1)
+all_split P (x ∷ xs) ys h = grind (arith, all_split P xs ys h.1)
 
 pub all_kept : (rules : Rules) (n : ℕ) (xs : List Step) (i : ℕ) → first_broken rules n xs i ≡ None → AllByRecursion (Keeps rules) xs
 all_kept rules n [] i e = tt
@@ -51,8 +51,8 @@ module _ (columns : Columns) (largest width : ℕ) (known : (name : List ℕ) (v
   window_lawful a b h = grind arith
 
   pub measure_lawful : {inside : Bool} {ts : List Tok} {m : MeasureTree} (d : ℕ) → MeasureText inside ts m → Kept (measure_steps rules d m) → lawful_measure width largest inside (measure_of columns m) ≡ true
-  measure_lawful d (a_numeral {inside} {s} {n}) h = ap (λ (k : ℕ). leb k 1000000000) (magnitude_of_signed s n) ∙ unless_none (rules.numeral n) 3 h.0.0
-  measure_lawful d (a_variable {inside} {name}) h = known_column (columns name) width (unless_none (rules.column name) 5 h.0.0) (known name)
+  measure_lawful d (a_numeral {inside} {s} {n}) h = grind (arith, magnitude_of_signed, unless_none)
+  measure_lawful d (a_variable {inside} {name}) h = grind (arith, known_column, unless_none)
   measure_lawful d (a_unary {inside} {u} {ms} {m} t) h =
       let parts = all_split (Keeps rules) (measure_steps rules (suc d) m) _ h.1.1 in
       and_from _ _ (measure_lawful (suc d) t parts.0) (unless_none _ 7 parts.1.0.0)

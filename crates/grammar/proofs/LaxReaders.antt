@@ -28,7 +28,7 @@ punctuation_follows p n [] = by_token_follows (λ k t. taking (is_mark p k) 2 tt
 punctuation_follows p n (x ∷ s) = by_token_follows (λ k t. taking (is_mark p k) 2 tt n t) (cond_follows (is_mark p x.tok) taken_follows refuse_follows)
 
 more_left : (left left' : ℕ) → left ≤ left' → ltb 0 left ≡ true → ltb 0 left' ≡ true
-more_left left left' h e = lt-ltb 0 left' (let l = ltb-true 0 left e in omega arith)
+more_left left left' h e = grind (arith, lt-ltb, ltb-true)
 
 opening_follows : (left left' : ℕ) → left ≤ left' → FollowsReader (opening left') (opening left)
 opening_follows left left' h n [] = by_token_follows (λ k t. cond (is_mark Open k) (taking (ltb 0 left') 6 tt n t) (refuse 2 t)) refuse_follows
@@ -43,7 +43,7 @@ prefix_sign_got rules left n m s t u e = grind arith
 
 module _ (rules : Rules) (parts nesting : ℕ) (roomy : rules.parts ≤ parts) where
   pub room : (n : ℕ) → leb n rules.parts ≡ true → leb n parts ≡ true
-  room n e = le-leb n parts (let l = leb-true n rules.parts e in omega arith)
+  room n e = grind (arith, le-leb, leb-true)
 
   first_moment_follows : FollowsReader (λ n s. first_moment (lax parts nesting) (window_numeral (signed_numeral (first s).tok)) n s) (λ n s. first_moment rules (window_numeral (signed_numeral (first s).tok)) n s)
   first_moment_follows n [] = by_token_follows (λ k t. first_moment (lax parts nesting) (window_numeral (signed_numeral k)) n t) refuse_follows

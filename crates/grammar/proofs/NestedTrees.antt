@@ -25,7 +25,7 @@ bracket_one allowed level nesting = grind (arith, nat_tests)
 pub nesting_looser : (allowed looser : ℕ) (f : Property) → allowed ≤ looser → nesting_at looser f ≤ nesting_at allowed f
 nesting_looser allowed looser (formula.compare c d m n) h = omega arith
 nesting_looser allowed looser (formula.prefixed x f) h = omega arith
-nesting_looser allowed looser (formula.joined c f g) h = bracket_looser allowed looser (connective_level c) _ h
+nesting_looser allowed looser (formula.joined c f g) h = grind (arith, bracket_looser)
 
 level_at_most : (c : Connective) → leb (connective_level c) 5 ≡ true
 level_at_most c = grind arith
@@ -33,7 +33,7 @@ level_at_most c = grind arith
 pub nesting_bracketed : (f : Property) → nesting_at 0 f ≤ suc (nesting_at 5 f)
 nesting_bracketed (formula.compare c d m n) = omega arith
 nesting_bracketed (formula.prefixed x f) = omega arith
-nesting_bracketed (formula.joined c f g) = let e = level_at_most c in rw e (bracket_one 0 (connective_level c) _)
+nesting_bracketed (formula.joined c f g) = grind (arith, level_at_most, bracket_one)
 
 same_level : (l : Link) → connective_level (connective_of l) ≡ link_level l
 same_level l = grind arith
@@ -48,9 +48,7 @@ module _ (rules : Rules) (columns : Columns) where
   measure_nested : (m : MeasureTree) (d : ℕ) → d ≤ rules.nesting → Deep (measure_steps rules d m) → d + measure_nesting (measure_of columns m) ≤ rules.nesting
   measure_nested (numeral s n) d r h = omega arith
   measure_nested (variable name) d r h = omega arith
-  measure_nested (unary u m) d r h =
-      let inner = measure_nested m (suc d) h.1.0.1 (all_split (Keeps rules) (measure_steps rules (suc d) m) _ h.1.1).0 in
-      omega arith
+  measure_nested (unary u m) d r h = grind (arith, all_split, measure_nested m (suc d) h.1.0.1 (all_split (Keeps rules) (measure_steps rules (suc d) m) _ h.1.1).0)
   measure_nested (binary b m n) d r h =
       let parts = all_split (Keeps rules) (measure_steps rules (suc d) m ++ (_ ∷ measure_steps rules (suc d) n)) _ h.1.1 in
       let both = all_split (Keeps rules) (measure_steps rules (suc d) m) _ parts.0 in
@@ -82,14 +80,8 @@ module _ (rules : Rules) (columns : Columns) where
       let parts = all_split (Keeps rules) (lead_steps rules (suc k) l) (property_steps rules (suc k) p) h in
       let inner = property_nested (suc k) (lead_nested (suc k) l parts.0) t parts.1 in
       omega arith
-  property_nested k r (a_bracket {ps} {p} t) h =
-      let inner = property_nested (suc k) h.0.1 t (all_split (Keeps rules) (property_steps rules (suc k) p) _ h.1).0 in
-      let brackets = nesting_bracketed (property_of columns p) in
-      omega arith
-  property_nested k r (tighter {level} {ps} {p} t) h =
-      let inner = property_nested k r t h in
-      let looser = nesting_looser level (suc level) (property_of columns p) (omega arith) in
-      omega arith
+  property_nested k r (a_bracket {ps} {p} t) h = grind (arith, all_split, nesting_bracketed, property_nested (suc k) h.0.1 t (all_split (Keeps rules) (property_steps rules (suc k) p) _ h.1).0)
+  property_nested k r (tighter {level} {ps} {p} t) h = grind (arith, nesting_looser, property_nested k r t h)
   property_nested k r (a_link {level} {l} {ps} {qs} {p} {q} e t u) h =
       let parts = all_split (Keeps rules) (property_steps rules k p) (link_steps rules l ++ property_steps rules k q) h in
       let behind = all_split (Keeps rules) (link_steps rules l) (property_steps rules k q) parts.1 in

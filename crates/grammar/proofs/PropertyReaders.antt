@@ -52,7 +52,7 @@ deeper_behind d left deep l = let h = ltb-true 0 left l in omega arith
 
 -- the steps of a joined tree, as they are read
 joined_steps : (ps qs rs ls : List Step) (x : Step) → ls ≡ x ∷ rs → ps ++ (ls ++ qs) ≡ ((ps ++ (x ∷ [])) ++ rs) ++ qs
-joined_steps ps qs rs ls x e = ap (λ (ks : List Step). ps ++ (ks ++ qs)) e ∙ simp append_assoc
+joined_steps ps qs rs ls x e = grind (arith, append_assoc)
 
 pub prefixed_steps : {x : PrefixSign} {l : Lead} (rules : Rules) (d : ℕ) (p : PropertyTree) → Led x l → property_steps rules d (prefixed l p) ≡ leading (suc d) (prefix x) ∷ (lead_rest rules l ++ property_steps rules (suc d) p)
 prefixed_steps rules d p h = ap (λ (ks : List Step). ks ++ property_steps rules (suc d) p) (led_steps rules (suc d) h)
@@ -161,4 +161,4 @@ module _ {rules : Rules} where
   operand_fine d (suc left) deep n (x ∷ s) r = operand_at_right d (suc left) deep (λ _. operand_fine (suc d) left (deeper d left deep)) (λ _. tier_fine (suc d) (operand_fine (suc d) left (deeper d left deep)) loosest) x.tok n x.at s r
 
   pub formula_fine : Fine rules (formula rules rules.nesting) (properties rules 0 loosest)
-  formula_fine = tier_fine 0 (operand_fine 0 rules.nesting (zero-add rules.nesting)) loosest
+  formula_fine = grind (arith, tier_fine, operand_fine, zero-add)

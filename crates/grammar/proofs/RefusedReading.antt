@@ -1,5 +1,5 @@
 -- A refusal is at the first token at fault: what stands before it goes on to a text, and the token cannot follow, or it is the first that breaks a rule.
-use Rattle.std.proofs.Common.{◌≡◌, ℕ, ◌+◌, ◌-◌, List, [], ◌∷◌, ◌++◌, length, take, drop, Some, sym, refl, ap, ◌∙◌, subst, zero-add, arith, length-append}
+use Rattle.std.proofs.Common.{◌≡◌, ℕ, ◌+◌, ◌-◌, List, ◌∷◌, ◌++◌, length, take, drop, Some, sym, refl, ap, ◌∙◌, subst, zero-add, arith, length-append}
 use mathlib.Core.List.{map-append}
 use lib.ListN.{length-map}
 use lib.Seq.{take-append_seam, drop-append_seam}
@@ -9,7 +9,7 @@ use Rattle.parts.proofs.NodesOfParts.{nth_at}
 use Rattle.grammar.specs.Faults.{first_broken}
 use Rattle.grammar.specs.Laws.{toks, steps, Unbroken, Breaks}
 use Rattle.grammar.specs.Layers.{PropertyText, loosest}
-use Rattle.grammar.specs.Reading.{Outcome, fault, first, reading}
+use Rattle.grammar.specs.Reading.{fault, first, reading}
 use Rattle.grammar.specs.Steps.{Rules, Step}
 use Rattle.grammar.specs.Trees.{PropertyTree}
 use Rattle.grammar.proofs.FirstBroken.{none_broken, broken_behind}

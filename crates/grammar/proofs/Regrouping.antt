@@ -106,9 +106,7 @@ join l p (a_comparison m n) = operand_right l (within_loosest l) p (a_comparison
 join l p (a_prefix t q) = operand_right l (within_loosest l) p (a_prefix t q)
 join l p (a_bracket q) = operand_right l (within_loosest l) p (a_bracket q)
 join l p (tighter q) = join l p q
-join l {ps = ps} p (a_link {l = k} {ps = qs} {qs = ks} e q r) =
-    rw (← append_assoc (link_tokens l) qs (link_tokens k ++ ks), ← append_assoc ps (link_tokens l ++ qs) (link_tokens k ++ ks))
-    (join k (join l p q).1 r)
+join l {ps = ps} p (a_link {l = k} {ps = qs} {qs = ks} e q r) = grind (arith, append_assoc, join k (join l p q).1 r, join l p q)
 
 grouped : {ts : List Tok} → LogicProperty ts → Grouped loosest ts
 grouped (published.comparison c m n) = (_, looser loosest (a_comparison {q = Value} {c = c} (measure_tree m).1 (measure_tree n).1))

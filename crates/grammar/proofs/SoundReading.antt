@@ -30,8 +30,8 @@ reading_ends rules s p n t e = grind arith
 -- what stands before the end of the text is the whole text
 all_read : (us ts s : List Spot) (end : ℕ) → us ++ s ≡ ended ts end → (first s).tok ≡ stop → AllByRecursion (λ t. IsToken t.tok) ts → Tokens (toks us) → us ≡ ts
 all_read [] [] s end e f h k = refl
-all_read [] (t ∷ ts) s end e f h k = absurd (h.0 (ap (λ (v : List Spot). (first v).tok) (sym e) ∙ f))
-all_read (u ∷ us) [] s end e f h (more i k) = absurd (i (ap (λ (v : List Spot). (first v).tok) e))
+all_read [] (t ∷ ts) s end e f h k = grind arith
+all_read (u ∷ us) [] s end e f h (more i k) = grind arith
 all_read (u ∷ us) (t ∷ ts) s end e f h (more i k) =
     let there : us ++ s ≡ ended ts end = cc in
     let here : u ≡ t = cc in

@@ -1,21 +1,17 @@
 -- Which token a test of a reader has found.
-use Rattle.std.proofs.Common.{◌≡◌, ℕ, zero, suc, true, eqb, Some, Option, sym, ap, ◌∙◌, arith, eqb-true}
+use Rattle.std.proofs.Common.{◌≡◌, ℕ, true, Some, Option, arith}
 use Rattle.parts.specs.declared.kinds.Comparator.{Comparator}
 use Rattle.tokens.specs.Tokens.{Tok, mark, comparator, connective, numeral, stop, is_stop}
 use Rattle.tokens.specs.declared.words.ConnectiveSign.{ConnectiveSign}
 use Rattle.tokens.specs.declared.words.Punctuation.{Punctuation}
-use Rattle.tokens.specs.declared.words.Punctuation.TheVariants.{Open, Close, OpenWindow, CloseWindow, Comma}
 use Rattle.tokens.specs.declared.words.Sign.{Sign}
-use Rattle.tokens.specs.declared.words.Sign.TheVariants.{Unsigned, Minus}
+use Rattle.tokens.specs.declared.words.Sign.TheVariants.{Unsigned}
 use Rattle.grammar.specs.Layers.{LeadText}
-use Rattle.grammar.specs.Reading.{code, is_mark, signed_numeral, window_numeral, index_numeral, comparator_of, sign_at, at_level, sign_level}
+use Rattle.grammar.specs.Reading.{is_mark, signed_numeral, window_numeral, index_numeral, comparator_of, sign_at, sign_level}
 use Rattle.grammar.specs.Trees.{skipping}
 
 pub mark_is : (p : Punctuation) (t : Tok) → is_mark p t ≡ true → t ≡ mark p
 mark_is p t e = grind arith
-
-pub stop_is : (t : Tok) → is_stop t ≡ true → t ≡ stop
-stop_is t e = grind arith
 
 pub signed_numeral_is : (t : Tok) (k : Sign × ℕ) → signed_numeral t ≡ Some k → t ≡ numeral k.0 k.1
 signed_numeral_is t k e = grind arith

@@ -1,5 +1,5 @@
 -- What the node at each index is, told from its part and the nodes of its operands, which stand before it. Assumes nothing.
-use Rattle.std.proofs.Common.{◌≡◌, ℕ, zero, suc, ◌+◌, ◌-◌, ◌<◌, true, List, [], ◌∷◌, ◌++◌, length, Some, Option, sym, refl, ap, ◌∙◌, append_assoc, append-nil, add-zero, zero-add, arith}
+use Rattle.std.proofs.Common.{◌≡◌, ℕ, zero, suc, ◌+◌, ◌-◌, ◌<◌, true, List, [], ◌∷◌, ◌++◌, length, Some, Option, refl, ap, ◌∙◌, append_assoc, append-nil, add-zero, zero-add, arith}
 use Rattle.std.specs.Option.{option_map}
 use Rattle.std.specs.List.{slice_get}
 use Rattle.std.proofs.lemmas.Grind.{common_steps}
@@ -7,7 +7,7 @@ use Rattle.std.proofs.lemmas.List.{length_push}
 use Rattle.std.proofs.lemmas.Option.{get_or_from_slice_get, slice_get-get_or, slice_get_read, slice_get_within}
 use Rattle.std.proofs.lemmas.Bool.{eqb-true}
 use Rattle.parts.specs.Formulas.{Measure, numeral, variable, unary, binary, over, Property, compare, prefixed, joined}
-use Rattle.parts.specs.Order.{Node, measure, property, node_size, as_measure, as_property, last_node, size_of, adjoins, measures_at, properties_at, node, nodes_behind, nodes}
+use Rattle.parts.specs.Order.{Node, measure, property, node_size, last_node, size_of, adjoins, measures_at, properties_at, node, nodes_behind, nodes}
 use Rattle.parts.specs.declared.kinds.Part.{Part}
 use Rattle.parts.specs.declared.kinds.Part.TheVariants.{Numeral, Variable, Unary, Binary, Over, Compare, Prefix, Connective}
 
@@ -41,9 +41,6 @@ nth_at xs ys x = slice_get_read (xs ++ (x ∷ ys)) _ (length xs) x refl (grind (
 pub nth_front : {X : Type 0} (xs ys : List X) (i : ℕ) (x : X) → slice_get xs i ≡ Some x → slice_get (xs ++ ys) i ≡ Some x
 nth_front xs ys i x e = grind (arith, common_steps, slice_get_within xs i x e, get_or_from_slice_get xs i x x e, slice_get-get_or (xs ++ ys) i x)
 
-mapped_some : {X Y : Type 0} {f : X → Y} (o : Option X) {y : Y} → option_map f o ≡ Some y → (x : X) × (o ≡ Some x) × (y ≡ f x)
-mapped_some o e = grind arith
-
 -- a node behind those of the parts before it
 module _ (ns more : List Node) (x : Node) where
   one_here : (y : Node) → last_node ns ≡ Some y → OneOperand (ns ++ (x ∷ more)) (length ns) y x
@@ -61,14 +58,8 @@ module _ (ns more : List Node) (x : Node) where
         here = nth_at ns more x;
       }
 
-  measures_here : (left : ℕ) (o : Measure × Measure) → measures_at ns left ≡ Some o → TwoOperands (ns ++ (x ∷ more)) (length ns) left (measure o.0) (measure o.1) x
-  measures_here left o e = two_here left (measure o.0) (measure o.1) (grind arith) (grind arith) (grind arith)
-
-  properties_here : (left : ℕ) (o : Property × Property) → properties_at ns left ≡ Some o → TwoOperands (ns ++ (x ∷ more)) (length ns) left (property o.0) (property o.1) x
-  properties_here left o e = two_here left (property o.0) (property o.1) (grind arith) (grind arith) (grind arith)
-
   meant_here : (part : Part) → node ns part ≡ Some x → Meant (ns ++ (x ∷ more)) (length ns) part
-  meant_here part e = grind (arith, nth_at, mapped_some, one_here, measures_here, properties_here)
+  meant_here part e = grind (arith, nth_at, one_here, two_here)
 
 -- the first of some parts has a node, and the other parts have the nodes behind it
 pub first_node : (ns : List Node) (p : Part) (ps : List Part) (all : List Node) → nodes_behind ns (p ∷ ps) ≡ Some all → (x : Node) × (node ns p ≡ Some x) × (nodes_behind (ns ++ (x ∷ [])) ps ≡ Some all)
@@ -98,4 +89,4 @@ pub meant : (ps : List Part) (ns : List Node) (i : ℕ) (part : Part) → nodes 
 meant ps ns i part e at = rw (← zero-add i) (meant_behind ps [] ns i part e at)
 
 pub as_many_nodes : (ps : List Part) (ns : List Node) → nodes ps ≡ Some ns → length ns ≡ length ps
-as_many_nodes ps ns e = let h = nodes_more ps [] ns e in ap length h.1 ∙ h.2
+as_many_nodes ps ns e = grind (arith, nodes_more)

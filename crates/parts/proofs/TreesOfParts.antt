@@ -12,14 +12,14 @@ use Rattle.parts.proofs.NodesOfParts.{OneOperand, TwoOperands, Meant, as_many_no
 length_measure_parts : (m : Measure) (start : ℕ) → length (measure_parts start m) ≡ measure_size m
 length_measure_parts (numeral n) start = refl
 length_measure_parts (variable v) start = refl
-length_measure_parts (unary u m) start = simp length-append (let h = length_measure_parts m start in omega arith)
-length_measure_parts (binary b m n) start = simp length-append (let h = length_measure_parts m start in let k = length_measure_parts n (start + measure_size m) in omega arith)
-length_measure_parts (over s w m) start = simp length-append (let h = length_measure_parts m start in omega arith)
+length_measure_parts (unary u m) start = grind (arith, length-append, length_measure_parts m start)
+length_measure_parts (binary b m n) start = grind (arith, length-append, length_measure_parts m start, length_measure_parts n (start + measure_size m))
+length_measure_parts (over s w m) start = grind (arith, length-append, length_measure_parts m start)
 
 pub length_property_parts : (p : Property) (start : ℕ) → length (property_parts start p) ≡ property_size p
-length_property_parts (compare c q m n) start = simp length-append (let h = length_measure_parts m start in let k = length_measure_parts n (start + measure_size m) in omega arith)
-length_property_parts (prefixed x p) start = simp length-append (let h = length_property_parts p start in omega arith)
-length_property_parts (joined c p q) start = simp length-append (let h = length_property_parts p start in let k = length_property_parts q (start + property_size p) in omega arith)
+length_property_parts (compare c q m n) start = grind (arith, length-append, length_measure_parts)
+length_property_parts (prefixed x p) start = grind (arith, length-append, length_property_parts p start)
+length_property_parts (joined c p q) start = grind (arith, length-append, length_property_parts p start, length_property_parts q (start + property_size p))
 
 abbrev node_parts : ℕ → Node → List Part
 node_parts start (measure m) = measure_parts start m

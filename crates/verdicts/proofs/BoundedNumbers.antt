@@ -1,17 +1,14 @@
 -- A known number is within its bound. Assumes nothing.
-use Rattle.std.proofs.Common.{◌≡◌, ℕ, zero, suc, ◌+◌, ◌-◌, ◌*◌, ◌≤◌, Bool, true, false, cond, List, [], ◌∷◌, length, ℤ, ◌+ℤ◌, ◌*ℤ◌, neg_ℤ, nat_abs, Some, None, Option, subst, mul-le-mul_right, suc-mul, mul-le-mul, arith}
+use Rattle.std.proofs.Common.{◌≡◌, ℕ, zero, suc, ◌+◌, ◌-◌, ◌*◌, ◌≤◌, Bool, true, false, cond, List, [], ◌∷◌, length, ℤ, ◌+ℤ◌, ◌*ℤ◌, neg_ℤ, nat_abs, Some, None, Option, mul-le-mul_right, suc-mul, mul-le-mul, arith}
 use lib.Signed.{lt_z}
 use Rattle.std.specs.List.{slice_get, AllByRecursion}
-use Rattle.std.specs.Int.{int_signum}
 use Rattle.std.specs.Option.{option_map}
 use Rattle.std.proofs.lemmas.Bool.{and_parts, leb-true}
 use Rattle.parts.specs.Bounds.{binary_bound, bound_of, most_bound, most_states, statistic_bound, unary_bound}
 use Rattle.parts.specs.Formulas.{Measure, numeral, variable, unary, binary, over}
 use Rattle.parts.specs.Limits.{lawful_measure, most_numeral}
 use Rattle.parts.specs.declared.kinds.Binary.{Binary}
-use Rattle.parts.specs.declared.kinds.Binary.TheVariants.{Add, Subtract, Multiply}
 use Rattle.parts.specs.declared.kinds.Statistic.{Statistic}
-use Rattle.parts.specs.declared.kinds.Statistic.TheVariants.{Min, Max, Sum, Count}
 use Rattle.parts.specs.declared.kinds.Unary.{Unary}
 use Rattle.runs.specs.Runs.{State, value_at}
 use Rattle.runs.specs.declared.shape.Mark.{Mark}

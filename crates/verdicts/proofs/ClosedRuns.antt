@@ -1,5 +1,5 @@
 -- On a closed run the verdict of a formula is true where the formula holds and false where it does not. Assumes nothing.
-use Rattle.std.proofs.Common.{◌≡◌, ℕ, ◌<◌, ◌≤◌, Bool, true, false, cond, List, [], ◌∷◌, length, get_or, drop, ℤ, pos, ◌-ℤ◌, ◌*ℤ◌, Some, None, Option, sym, refl, ap, ◌∙◌, subst, ap₂, arith}
+use Rattle.std.proofs.Common.{◌≡◌, ℕ, ◌<◌, ◌≤◌, Bool, true, false, List, [], ◌∷◌, length, get_or, drop, ℤ, pos, ◌-ℤ◌, ◌*ℤ◌, Some, None, Option, sym, refl, ap, ◌∙◌, subst, ap₂, arith}
 use mathlib.Core.List.{foldr}
 use Rattle.std.specs.Option.{option_map}
 use Rattle.std.specs.List.{AllByRecursion}
@@ -14,7 +14,6 @@ use Rattle.parts.specs.declared.kinds.Connective.TheVariants.{And, Or, Implies, 
 use Rattle.parts.specs.declared.kinds.Prefix.TheVariants.{Not, Next, Eventually, Always}
 use Rattle.parts.specs.declared.kinds.Quantity.TheVariants.{Value, Change}
 use Rattle.parts.specs.declared.kinds.Window.{Window}
-use Rattle.runs.specs.Moments.{Belongs}
 use Rattle.runs.specs.Runs.{State, endures, value_at}
 use Rattle.runs.specs.declared.shape.Mark.{Mark}
 use Rattle.runs.specs.declared.shape.Mark.TheVariants.{Closed}

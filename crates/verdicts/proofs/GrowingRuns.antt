@@ -125,4 +125,4 @@ verdicts_stay width largest p h mark later open' run more = stays (verdict_keeps
 
 pub numbers_stay : NumbersStay
 numbers_stay width largest inside m h mark later open' run more z known =
-    stays (value_keeps width largest mark later more open' inside m h run) (λ e. let z : ◌≡◌ {A = ℕ} 0 1 = cc in omega arith) ∙ known
+    stays (value_keeps width largest mark later more open' inside m h run) (λ e. cc) ∙ known

@@ -1,11 +1,11 @@
 -- Answers that stay once they are there: how connectives, comparisons and computations keep them. Assumes nothing.
-use Rattle.std.proofs.Common.{ℤ, Some, None, Option, arith}
+use Rattle.std.proofs.Common.{ℤ, None, Option, arith}
 use Rattle.std.specs.Option.{option_map}
 use Rattle.parts.specs.declared.kinds.Comparator.{Comparator}
 use Rattle.verdicts.specs.Tables.{greater, implies, lesser, swap}
 use Rattle.verdicts.specs.Verdicts.{both, compared}
 use Rattle.verdicts.specs.declared.verdict.Verdict.{Verdict}
-use Rattle.verdicts.specs.declared.verdict.Verdict.TheVariants.{False, True, Undecided}
+use Rattle.verdicts.specs.declared.verdict.Verdict.TheVariants.{Undecided}
 
 -- the later of two answers: any, where the earlier one was none yet, and else the same
 pub data Keeps {A : Type 0} (none : A) : A → A → Type 0 where

@@ -1,5 +1,5 @@
 -- Once a run is closed, or its stays add up to the reach of a formula, its verdict is decided. Assumes nothing.
-use Rattle.std.proofs.Common.{◌≡◌, ℕ, zero, suc, ◌+◌, ◌-◌, ◌*◌, ◌<◌, ◌≤◌, max, Bool, true, false, List, [], ◌∷◌, length, drop, ℤ, pos, ◌-ℤ◌, ◌*ℤ◌, Some, None, Option, refl, inl, inr, suc-mul, arith}
+use Rattle.std.proofs.Common.{◌≡◌, ℕ, zero, suc, ◌+◌, ◌-◌, ◌*◌, ◌<◌, ◌≤◌, max, Bool, true, false, List, [], ◌∷◌, length, drop, ℤ, pos, Some, None, Option, refl, inl, inr, suc-mul, arith}
 use Rattle.std.specs.Option.{option_map}
 use Rattle.std.specs.List.{AllByRecursion}
 use Rattle.std.proofs.ByRecursion.{All-drop}
@@ -24,7 +24,7 @@ use Rattle.verdicts.specs.Laws.{Settles}
 use Rattle.verdicts.specs.Reach.{measure_reach, reach_of}
 use Rattle.verdicts.specs.Tables.{decided, greater, lesser, swap}
 use Rattle.verdicts.specs.Tours.{tour, tour_at, within}
-use Rattle.verdicts.specs.Verdicts.{always_step, both, collect, compared, eventually_step, further, rise, rises, until_step, value, verdict}
+use Rattle.verdicts.specs.Verdicts.{always_step, both, collect, compared, eventually_step, further, rises, until_step, value, verdict}
 use Rattle.verdicts.specs.declared.verdict.Verdict.{Verdict}
 use Rattle.verdicts.specs.declared.verdict.Verdict.TheVariants.{False, True, Undecided}
 

@@ -1,18 +1,9 @@
--- The three verdicts are apart; and lesser and greater: order of operands, grouping, and one over the other. Assumes nothing.
+-- Lesser and greater of the three verdicts: order of operands, grouping, and one over the other. Assumes nothing.
 use Rattle.std.proofs.Common.{◌≡◌, ℕ, arith}
 use Rattle.verdicts.specs.Laws.{TablesByRank}
 use Rattle.verdicts.specs.Tables.{greater, lesser}
 use Rattle.verdicts.specs.declared.verdict.Verdict.{Verdict}
 use Rattle.verdicts.specs.declared.verdict.Verdict.TheVariants.{False, True, Undecided}
-
-pub true≢false : True ≡ False → ⊥
-true≢false e = let z : ◌≡◌ {A = ℕ} 0 1 = cc in omega arith
-
-pub true≢undecided : True ≡ Undecided → ⊥
-true≢undecided e = let z : ◌≡◌ {A = ℕ} 0 1 = cc in omega arith
-
-pub false≢undecided : False ≡ Undecided → ⊥
-false≢undecided e = let z : ◌≡◌ {A = ℕ} 0 1 = cc in omega arith
 
 pub lesser_false : (v : Verdict) → lesser v False ≡ False
 lesser_false v = grind arith

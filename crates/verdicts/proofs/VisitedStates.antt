@@ -1,5 +1,5 @@
 -- A tour joins the states to which some moment of its window belongs, each once, in order; and it is a fold over them. Assumes nothing.
-use Rattle.std.proofs.Common.{◌≡◌, ℕ, zero, suc, ◌+◌, ◌-◌, ◌<◌, ◌≤◌, Bool, true, false, cond, leb, ◌⊎◌, List, [], ◌∷◌, map, drop, sym, refl, ap, ◌∙◌, inl, inr, arith}
+use Rattle.std.proofs.Common.{◌≡◌, ℕ, zero, suc, ◌+◌, ◌-◌, ◌≤◌, Bool, true, false, cond, leb, ◌⊎◌, List, [], ◌∷◌, map, drop, sym, refl, ap, ◌∙◌, inl, inr, arith}
 use mathlib.Core.List.{foldr}
 use Rattle.std.proofs.lemmas.Bool.{le-leb, or_left}
 use Rattle.std.specs.List.{AllByRecursion}

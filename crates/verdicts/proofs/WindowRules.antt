@@ -1,5 +1,5 @@
 -- Measures over a window, F, G and U, told along a tour, are as their rules say over the visited states. Assumes nothing.
-use Rattle.std.proofs.Common.{◌≡◌, ℕ, suc, Bool, true, false, cond, List, [], ◌∷◌, map, length, get_or, take, ℤ, Some, None, Option, sym, refl, ap, ◌∙◌, ap₂, arith}
+use Rattle.std.proofs.Common.{◌≡◌, ℕ, suc, Bool, cond, List, [], ◌∷◌, map, length, ℤ, Some, None, Option, sym, refl, ap, ◌∙◌, ap₂, arith}
 use mathlib.Core.List.{foldr}
 use Rattle.std.specs.Option.{option_map}
 use Rattle.parts.specs.declared.kinds.Statistic.{Statistic}
@@ -10,10 +10,9 @@ use Rattle.verdicts.specs.Arithmetic.{of_many}
 use Rattle.verdicts.specs.Laws.{WindowsByRule}
 use Rattle.verdicts.specs.Rules.{all_known, below, greatest, least, statistic_rule, until_at}
 use Rattle.verdicts.specs.Tables.{greater, lesser}
-use Rattle.verdicts.specs.Tours.{visited, whole}
-use Rattle.verdicts.specs.Verdicts.{always_step, both, collect, eventually_step, until_step, value, verdict}
+use Rattle.verdicts.specs.Verdicts.{always_step, both, collect, eventually_step, until_step}
 use Rattle.verdicts.specs.declared.verdict.Verdict.{Verdict}
-use Rattle.verdicts.specs.declared.verdict.Verdict.TheVariants.{False, True, Undecided}
+use Rattle.verdicts.specs.declared.verdict.Verdict.TheVariants.{False, Undecided}
 
 collect_none : (m : List State → Option ℤ) (ts : List (List State)) → foldr (collect m) None ts ≡ None
 collect_none m [] = refl
