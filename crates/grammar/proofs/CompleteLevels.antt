@@ -1,5 +1,5 @@
 -- The readers of levels and of formulas read every formula that is spelled and breaks no rule.
-use Rattle.std.proofs.Common.{◌≡◌, ℕ, zero, suc, ◌+◌, ◌<◌, ◌≤◌, Bool, cond, List, ◌∷◌, ◌++◌, length, Some, None, Option, sym, ap, ◌∙◌, subst, le_refl, zero-add, arith, eq-eqb, ne_eqb}
+use Rattle.std.proofs.Common.{◌≡◌, ℕ, zero, suc, ◌+◌, ◌<◌, ◌≤◌, List, ◌∷◌, ◌++◌, length, Some, None, Option, sym, ap, ◌∙◌, subst, le_refl, zero-add, arith, eq-eqb, ne_eqb}
 use Rattle.tokens.specs.Tokens.{Tok, Spot, connective}
 use Rattle.tokens.specs.declared.words.ConnectiveSign.{ConnectiveSign}
 use Rattle.grammar.specs.Faults.{broken_by}

@@ -1,5 +1,5 @@
 -- The readers of one token, of windows, and of prefixes and connectives behind their signs read whatever is spelled and breaks no rule.
-use Rattle.std.proofs.Common.{◌≡◌, ℕ, suc, ◌+◌, Bool, true, false, cond, List, [], ◌∷◌, ◌++◌, None, sym, refl, subst, arith}
+use Rattle.std.proofs.Common.{◌≡◌, ℕ, suc, ◌+◌, Bool, true, false, cond, List, [], ◌∷◌, ◌++◌, None, refl, arith}
 use Rattle.tokens.specs.Tokens.{Tok, Spot, mark, numeral}
 use Rattle.tokens.specs.declared.words.ConnectiveSign.{ConnectiveSign}
 use Rattle.tokens.specs.declared.words.PrefixSign.{PrefixSign}
@@ -12,7 +12,7 @@ use Rattle.grammar.specs.Layers.{LeadText}
 use Rattle.grammar.specs.Reading.{Outcome, got, Reader, and_then, first, is_mark, bring, punctuation, opening, signed_numeral, window_numeral, index_numeral, first_moment, last_moment, index_by, window, lead, link}
 use Rattle.grammar.specs.Steps.{Rules, Step, unless, or_else, plain, bringing, nesting, limited, window_steps}
 use Rattle.grammar.specs.Trees.{Lead, skipping, Link}
-use Rattle.grammar.proofs.Keeping.{kept, left_for, none_or, unless_none}
+use Rattle.grammar.proofs.Keeping.{left_for, none_or, unless_none}
 use Rattle.grammar.proofs.Spelling.{Spelled, none, more, part}
 use Rattle.grammar.proofs.WindowReaders.{Led, led_not, led_next, led_skipping, led_eventually, led_always, lead_rest, Linked, linked_and, linked_or, linked_implies, linked_iff, linked_until, link_rest}
 

@@ -1,5 +1,5 @@
 -- The step that is broken first, behind steps that a text spells and that break no rule.
-use Rattle.std.proofs.Common.{◌≡◌, ℕ, suc, ◌+◌, List, [], ◌∷◌, ◌++◌, length, Some, None, Option, sym, refl, ap, ◌∙◌, subst, add-zero, add-suc, suc-add, arith}
+use Rattle.std.proofs.Common.{◌≡◌, ℕ, suc, ◌+◌, List, [], ◌∷◌, ◌++◌, length, Some, None, Option, sym, refl, ◌∙◌, subst, add-zero, add-suc, suc-add, arith}
 use Rattle.tokens.specs.Tokens.{Tok, Spot}
 use Rattle.grammar.specs.Faults.{brought_by, broken_by, first_broken}
 use Rattle.grammar.specs.Laws.{toks}

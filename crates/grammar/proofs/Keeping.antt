@@ -1,5 +1,5 @@
 -- Which rule a step breaks, by the tests that a reader makes: of a token that brings nothing its own rule, else also whether there is room for its part and its nesting.
-use Rattle.std.proofs.Common.{◌≡◌, ℕ, suc, ◌+◌, Bool, true, ◌&&◌, ltb, leb, List, ◌∷◌, None, Option, ap, ◌∙◌, ap₂, arith}
+use Rattle.std.proofs.Common.{◌≡◌, ℕ, suc, ◌+◌, Bool, true, ltb, leb, List, ◌∷◌, None, Option, arith}
 use lib.Dec.{leb-zero}
 use Rattle.tokens.specs.Tokens.{Tok, Spot}
 use Rattle.grammar.specs.Faults.{brought_by, broken_by}

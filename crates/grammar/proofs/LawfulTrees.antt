@@ -1,5 +1,5 @@
 -- A tree of which no token breaks a rule is a formula within the limits.
-use Rattle.std.proofs.Common.{◌≡◌, ℕ, suc, ◌<◌, ◌≤◌, Bool, true, false, ltb, leb, List, [], ◌∷◌, ◌++◌, nat_abs, is_some, Some, None, Option, unwrap_or, sym, refl, ap, ◌∙◌, arith, leb-true}
+use Rattle.std.proofs.Common.{◌≡◌, ℕ, suc, ◌<◌, ◌≤◌, Bool, true, false, ltb, List, [], ◌∷◌, ◌++◌, nat_abs, is_some, Some, None, Option, unwrap_or, sym, refl, ◌∙◌, arith, leb-true}
 use Rattle.std.proofs.lemmas.Bool.{and_from}
 use Rattle.std.specs.List.{AllByRecursion}
 use Rattle.parts.specs.Limits.{lawful, lawful_measure, lawful_prefix, lawful_connective, lawful_window}

@@ -1,5 +1,5 @@
 -- Where a text spells the steps of a tree and no step breaks a rule: such spellings are joined and parted, and are what `first_broken` asks for.
-use Rattle.std.proofs.Common.{◌≡◌, ℕ, List, [], ◌∷◌, ◌++◌, map, None, refl, ap, subst, arith}
+use Rattle.std.proofs.Common.{◌≡◌, ℕ, List, [], ◌∷◌, ◌++◌, map, None, refl, arith}
 use Rattle.tokens.specs.Tokens.{Tok, Spot}
 use Rattle.grammar.specs.Faults.{brought_by, broken_by}
 use Rattle.grammar.specs.Steps.{Rules, Step}

@@ -1,14 +1,12 @@
 -- The tokens of a text are those of its tree's steps, and none of them is the end of the text.
-use Rattle.std.proofs.Common.{◌≡◌, ℕ, suc, Bool, true, false, List, [], ◌∷◌, ◌++◌, sym, refl, ap, ◌∙◌, ap₂, arith}
+use Rattle.std.proofs.Common.{◌≡◌, ℕ, suc, Bool, false, List, [], ◌∷◌, ◌++◌, refl, ap, arith}
 use mathlib.Core.List.{map-append}
 use Rattle.parts.specs.declared.kinds.Quantity.{Quantity}
-use Rattle.tokens.specs.Tokens.{Tok, mark, change, comparator, is_stop}
-use Rattle.tokens.specs.Tokens as token
-use Rattle.tokens.specs.declared.words.Punctuation.TheVariants.{Open, Comma}
+use Rattle.tokens.specs.Tokens.{Tok, is_stop}
 use Rattle.grammar.specs.Derivations.{window_tokens, bracket_tokens}
 use Rattle.grammar.specs.Laws.{IsToken}
 use Rattle.grammar.specs.Layers.{MeasureText, a_numeral, a_variable, a_unary, a_binary, a_statistic, PropertyText, a_comparison, a_prefix, a_bracket, tighter, a_link, lead_tokens, link_tokens, change_tokens}
-use Rattle.grammar.specs.Steps.{Rules, Step, plain, bringing, window_steps, lead_steps, link_steps, left_steps, measure_steps, property_steps}
+use Rattle.grammar.specs.Steps.{Rules, Step, lead_steps, link_steps, left_steps, measure_steps, property_steps}
 use Rattle.grammar.specs.Trees.{MeasureTree, Lead, Link, PropertyTree}
 use Rattle.grammar.proofs.Spelling.{step_tokens}
 

@@ -1,7 +1,7 @@
 -- Which token a test of a reader has found.
 use Rattle.std.proofs.Common.{◌≡◌, ℕ, true, Some, Option, arith}
 use Rattle.parts.specs.declared.kinds.Comparator.{Comparator}
-use Rattle.tokens.specs.Tokens.{Tok, mark, comparator, connective, numeral, stop, is_stop}
+use Rattle.tokens.specs.Tokens.{Tok, mark, comparator, connective, numeral}
 use Rattle.tokens.specs.declared.words.ConnectiveSign.{ConnectiveSign}
 use Rattle.tokens.specs.declared.words.Punctuation.{Punctuation}
 use Rattle.tokens.specs.declared.words.Sign.{Sign}

@@ -1,6 +1,5 @@
 -- A known number is within its bound. Assumes nothing.
 use Rattle.std.proofs.Common.{◌≡◌, ℕ, zero, suc, ◌+◌, ◌-◌, ◌*◌, ◌≤◌, Bool, true, false, cond, List, [], ◌∷◌, length, ℤ, ◌+ℤ◌, ◌*ℤ◌, neg_ℤ, nat_abs, Some, None, Option, mul-le-mul_right, suc-mul, mul-le-mul, arith}
-use lib.Signed.{lt_z}
 use Rattle.std.specs.List.{slice_get, AllByRecursion}
 use Rattle.std.specs.Option.{option_map}
 use Rattle.std.proofs.lemmas.Bool.{and_parts, leb-true}
@@ -41,15 +40,15 @@ within_either bound t x y h k = grind arith
 
 least_within : (bound : ℕ) (x : ℤ) (xs : List ℤ) → nat_abs x ≤ bound → AllByRecursion (λ x. nat_abs x ≤ bound) xs → nat_abs (least_of x xs) ≤ bound
 least_within bound x [] h each = h
-least_within bound x (y ∷ ys) h each = within_either bound (lt_z (least_of y ys) x) _ _ (least_within bound y ys each.0 each.1) h
+least_within bound x (y ∷ ys) h each = grind (arith, within_either, least_within bound y ys each.0 each.1)
 
 greatest_within : (bound : ℕ) (x : ℤ) (xs : List ℤ) → nat_abs x ≤ bound → AllByRecursion (λ x. nat_abs x ≤ bound) xs → nat_abs (greatest_of x xs) ≤ bound
 greatest_within bound x [] h each = h
-greatest_within bound x (y ∷ ys) h each = within_either bound (lt_z (greatest_of y ys) x) _ _ h (greatest_within bound y ys each.0 each.1)
+greatest_within bound x (y ∷ ys) h each = grind (arith, within_either, greatest_within bound y ys each.0 each.1)
 
 total_within : (bound : ℕ) (xs : List ℤ) → AllByRecursion (λ x. nat_abs x ≤ bound) xs → nat_abs (total xs) ≤ length xs * bound
 total_within bound [] each = omega arith
-total_within bound (x ∷ xs) each = omega (arith, magnitude_sum x (total xs), each.0, total_within bound xs each.1, suc-mul (length xs) bound)
+total_within bound (x ∷ xs) each = grind (arith, magnitude_sum, suc-mul, total_within bound xs each.1)
 
 unary_within : (u : Unary) (bound : ℕ) (x : Option ℤ) → Within bound x → Within (unary_bound u bound) (option_map (of_one u) x)
 unary_within u bound x h = grind arith
@@ -101,18 +100,18 @@ module _ (largest : ℕ) (mark : Mark) where
   value_within : (m : Measure) (run : List State) → length run ≤ most_states → AllByRecursion Small run → Within (bound_of largest m) (value m mark run)
   value_within (numeral n) run few small = omega arith
   value_within (variable v) run few small = variable_within v run small
-  value_within (unary u m) run few small = unary_within u (bound_of largest m) _ (value_within m run few small)
-  value_within (binary b m n) run few small = binary_within b (bound_of largest m) (bound_of largest n) _ _ (value_within m run few small) (value_within n run few small)
+  value_within (unary u m) run few small = grind (arith, unary_within, value_within m run few small)
+  value_within (binary b m n) run few small = grind (arith, binary_within, value_within m run few small, value_within n run few small)
   value_within (over s w m) run few small =
       statistic_within s (bound_of largest m) _
       (few_within (bound_of largest m) (length run) _ few (tour_within (bound_of largest m) (value m mark) (λ t few' small'. value_within m t few' small') w.first w.last run few small))
 
 bound_lawful : (width largest : ℕ) (inside : Bool) (m : Measure) → lawful_measure width largest inside m ≡ true → largest ≤ most_numeral → bound_of largest m ≤ most_bound
-bound_lawful width largest inside (numeral n) h few = omega (arith, leb-true (nat_abs n) most_numeral h)
+bound_lawful width largest inside (numeral n) h few = grind (arith, leb-true)
 bound_lawful width largest inside (variable v) h few = omega arith
-bound_lawful width largest inside (unary u m) h few = leb-true _ most_bound (unary_parts width largest inside u m h).1
-bound_lawful width largest inside (binary b m n) h few = leb-true _ most_bound (and_parts _ _ (binary_parts width largest inside b m n h).2).1
-bound_lawful width largest inside (over s w m) h few = leb-true _ most_bound (over_parts width largest inside s w m h).3
+bound_lawful width largest inside (unary u m) h few = grind (arith, leb-true, unary_parts)
+bound_lawful width largest inside (binary b m n) h few = grind (arith, leb-true, and_parts, binary_parts)
+bound_lawful width largest inside (over s w m) h few = grind (arith, leb-true, over_parts)
 
 pub numbers_bounded : NumbersBounded
 numbers_bounded width largest inside m h few' mark run few small z known = grind (arith, value_within, bound_lawful)

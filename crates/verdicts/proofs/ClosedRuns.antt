@@ -22,7 +22,7 @@ use Rattle.verdicts.proofs.LawfulFormulas.{binary_parts, compare_parts, joined_p
 use Rattle.verdicts.proofs.RisingNumbers.{same_rising}
 use Rattle.verdicts.proofs.VisitedStates.{places, places_in_order, tour_folds}
 use Rattle.verdicts.proofs.WholeWindows.{closed_whole}
-use Rattle.verdicts.specs.Arithmetic.{compares, of_many, of_one, of_two}
+use Rattle.verdicts.specs.Arithmetic.{compares, of_many, of_two}
 use Rattle.verdicts.specs.Begins.{Fits}
 use Rattle.verdicts.specs.Laws.{Tells, TwoValued}
 use Rattle.verdicts.specs.Tables.{decided}
@@ -77,10 +77,9 @@ module _ (shape : Shape) (largest : ℕ) (mark : Mark) (closed : endures mark �
 
   number_told : (inside : Bool) (m : Measure) → lawful_measure shape.width largest inside m ≡ true
       → (run : List State) → AllByRecursion (Fits shape) run → 0 < length run → Only (Number m run) (value m mark run)
-  number_told inside (numeral n) h run fits some = record { number = n; known = refl; is = refl; only = λ other e. e }
+  number_told inside (numeral n) h run fits some = grind arith
   number_told inside (variable v) h run fits some = variable_told v (ltb-true v shape.width h) run fits some
-  number_told inside (unary u m) h run fits some =
-      only_mapped (of_one u) (Number m run) _ (number_told inside m (unary_parts shape.width largest inside u m h).0 run fits some)
+  number_told inside (unary u m) h run fits some = grind (arith, only_mapped, unary_parts, number_told inside m (unary_parts shape.width largest inside u m h).0 run fits some)
   number_told inside (binary b m n) h run fits some =
       let parts = binary_parts shape.width largest inside b m n h in
       only_both (of_two b) (Number m run) (Number n run) _ _ (number_told inside m parts.0 run fits some) (number_told inside n parts.1 run fits some)
@@ -129,9 +128,7 @@ module _ (shape : Shape) (largest : ℕ) (mark : Mark) (closed : endures mark �
       told (drop j run) (All-drop (Fits shape) j run fits) (visited_there run j ((visits_in_order w h run fits).each j i))
 
   verdict_told : (p : Property) → lawful shape.width largest p ≡ true → (run : List State) → AllByRecursion (Fits shape) run → 0 < length run → Told (Holds p run) (verdict p mark run)
-  verdict_told (compare c Value m n) h run fits some =
-      let parts = compare_parts shape.width largest c Value m n h in
-      compared_told (Number m run) (Number n run) _ _ c (number_told false m parts.0 run fits some) (number_told false n parts.1 run fits some)
+  verdict_told (compare c Value m n) h run fits some = grind (arith, compare_parts, compared_told, number_told)
   verdict_told (compare c Change m n) h run fits some = rises_told c m n h run fits some
   verdict_told (prefixed Not p) h run fits some = told_not (verdict_told p (prefixed_parts shape.width largest Not p h).1 run fits some)
   verdict_told (prefixed (Next k) p) h run fits some =

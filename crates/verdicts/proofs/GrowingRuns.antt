@@ -1,5 +1,5 @@
 -- A decided verdict and a known number stay, whatever states follow and whether or not the run is then closed. Assumes nothing.
-use Rattle.std.proofs.Common.{◌≡◌, ℕ, zero, suc, ◌-◌, ◌≤◌, Bool, true, false, cond, List, [], ◌∷◌, ◌++◌, drop, ℤ, pos, ◌-ℤ◌, ◌*ℤ◌, Some, None, Option, refl, ◌∙◌, arith}
+use Rattle.std.proofs.Common.{◌≡◌, ℕ, zero, suc, ◌-◌, ◌≤◌, Bool, true, false, cond, List, [], ◌∷◌, ◌++◌, drop, ℤ, Some, None, Option, refl, ◌∙◌, arith}
 use Rattle.std.proofs.lemmas.Bool.{false≢true}
 use Rattle.parts.specs.Formulas.{Measure, numeral, variable, unary, binary, over, Property, compare, prefixed, joined}
 use Rattle.parts.specs.Limits.{lawful, lawful_measure, lawful_window}
@@ -15,7 +15,7 @@ use Rattle.verdicts.proofs.OwnedMoments.{within_order}
 use Rattle.verdicts.specs.Arithmetic.{of_many, of_one, of_two}
 use Rattle.verdicts.specs.Laws.{NumbersStay, VerdictsStay}
 use Rattle.verdicts.specs.Tours.{tour_of, tour, tour_at, within}
-use Rattle.verdicts.specs.Verdicts.{always_step, collect, eventually_step, further, rise, rises, until_step, value, verdict}
+use Rattle.verdicts.specs.Verdicts.{always_step, collect, eventually_step, further, rises, until_step, value, verdict}
 use Rattle.verdicts.specs.declared.verdict.Verdict.{Verdict}
 use Rattle.verdicts.specs.declared.verdict.Verdict.TheVariants.{False, True, Undecided}
 use Rattle.verdicts.proofs.KeptAnswers.{Keeps, both_keeps, compared_keeps, greater_keeps, implies_keeps, lesser_keeps, mapped_keeps, same, swap_keeps, yet}
@@ -50,9 +50,7 @@ module _ {A : Type 0} (none done : A) (join join' : List State → A → A) (mar
     (joins : (t : List State) (x x' : A) → Keeps none x x' → Keeps none (join t x) (join' (t ++ more) x')) where
   tour_keeps : (a b : ℕ) → a ≤ b → (run : List State) → Keeps none (tour join done none mark a b run) (tour join' done none later a b (run ++ more))
   tour_keeps a b h [] = yet
-  tour_keeps a b h (s ∷ []) =
-      last_keeps none done (within mark a s []) (within mark b s []) (within later a s more) (within later b s more) (join (s ∷ [])) (join' (s ∷ more)) _ (joins (s ∷ []))
-      (within_order mark a b s [] h) (within_stays mark later a s more open') (within_stays mark later b s more open')
+  tour_keeps a b h (s ∷ []) = grind (arith, last_keeps, within_order, within_stays)
   tour_keeps a b h (s ∷ n ∷ r) =
       rw (within_middle mark later a s n r (r ++ more), within_middle mark later b s n r (r ++ more))
       (toured_keeps none done (within later a s (n ∷ r ++ more)) (within later b s (n ∷ r ++ more)) (join (s ∷ n ∷ r)) (join' (s ∷ n ∷ r ++ more)) (joins (s ∷ n ∷ r))
@@ -85,8 +83,7 @@ module _ (width largest : ℕ) (mark later : Mark) (more : List State) (open' : 
   rises_keeps : (c : Comparator) (m m' n n' : List State → Option ℤ) → ((t : List State) → Keeps None (m t) (m' (t ++ more))) → ((t : List State) → Keeps None (n t) (n' (t ++ more)))
       → (run : List State) → Keeps Undecided (rises c m n mark run) (rises c m' n' later (run ++ more))
   rises_keeps c m m' n n' h k [] = rw open' yet
-  rises_keeps c m m' n n' h k (s ∷ r) =
-      further_keeps (rise c m n s r) (rise c m' n' s (r ++ more)) (λ t. compared_keeps c (both_keeps ◌-ℤ◌ (h t) (h (s ∷ r))) (mapped_keeps (λ x. x *ℤ pos s.stay) (k (s ∷ r)))) r
+  rises_keeps c m m' n n' h k (s ∷ r) = grind (arith, further_keeps, compared_keeps, both_keeps, mapped_keeps)
 
   drop_keeps : (said said' : List State → Verdict) → ((t : List State) → Keeps Undecided (said t) (said' (t ++ more))) → (k : ℕ) (run : List State)
       → Keeps Undecided (further mark said (drop k run)) (further later said' (drop k (run ++ more)))
@@ -95,12 +92,10 @@ module _ (width largest : ℕ) (mark later : Mark) (more : List State) (open' : 
   drop_keeps said said' keeps (suc k) (s ∷ r) = drop_keeps said said' keeps k r
 
   verdict_keeps : (p : Property) → lawful width largest p ≡ true → (run : List State) → Keeps Undecided (verdict p mark run) (verdict p later (run ++ more))
-  verdict_keeps (compare c Value m n) h run =
-      let parts = compare_parts width largest c Value m n h in compared_keeps c (value_keeps false m parts.0 run) (value_keeps false n parts.1 run)
-  verdict_keeps (compare c Change m n) h run =
-      let parts = compare_parts width largest c Change m n h in rises_keeps c (value m mark) (value m later) (value n mark) (value n later) (value_keeps false m parts.0) (value_keeps false n parts.1) run
+  verdict_keeps (compare c Value m n) h run = grind (arith, compare_parts, compared_keeps, value_keeps)
+  verdict_keeps (compare c Change m n) h run = grind (arith, compare_parts, rises_keeps, value_keeps)
   verdict_keeps (prefixed Not p) h run = swap_keeps (verdict_keeps p (prefixed_parts width largest Not p h).1 run)
-  verdict_keeps (prefixed (Next k) p) h run = drop_keeps (verdict p mark) (verdict p later) (verdict_keeps p (prefixed_parts width largest (Next k) p h).1) k run
+  verdict_keeps (prefixed (Next k) p) h run = grind (arith, drop_keeps, prefixed_parts, verdict_keeps p (prefixed_parts width largest (Next k) p h).1)
   verdict_keeps (prefixed (Eventually w) p) h run =
       let parts = prefixed_parts width largest (Eventually w) p h in over_keeps Undecided False (eventually_step (verdict p mark)) (eventually_step (verdict p later)) (λ t x x' k. greater_keeps (verdict_keeps p parts.1 t) k) w parts.0 run
   verdict_keeps (prefixed (Always w) p) h run =

@@ -1,14 +1,14 @@
 -- Whatever feeds and closes follow, a decided verdict stays and the kept states fit the run's shape. Assumes nothing.
-use Rattle.std.proofs.Common.{◌≡◌, ℕ, zero, suc, false, List, [], ◌∷◌, None, Option, ap, ◌∙◌, inl, inr, arith}
+use Rattle.std.proofs.Common.{◌≡◌, ℕ, zero, suc, false, [], ◌∷◌, None, Option, ap, ◌∙◌, inl, inr, arith}
 use Rattle.std.specs.List.{AllByRecursion}
-use Rattle.std.proofs.ByRecursion.{All-push, All-weaker}
+use Rattle.std.proofs.ByRecursion.{All-push}
 use Rattle.std.proofs.lemmas.Bool.{cases_Bool}
 use Rattle.runs.proofs.LastingRuns.{lasting}
 use Rattle.runs.proofs.TakenStates.{taken_lawful}
 use Rattle.runs.specs.Calls.{Step, after_steps, stepped}
 use Rattle.runs.specs.Feeding.{after, fed, state_of, unlawful, with_state}
 use Rattle.runs.specs.Offers.{Offered}
-use Rattle.runs.specs.Runs.{Lawful, Meaning, Run, State, ended, endures}
+use Rattle.runs.specs.Runs.{Meaning, Run, State, ended, endures}
 use Rattle.runs.specs.declared.refusal.Refusal.{Refusal}
 use Rattle.runs.specs.declared.shape.Mark.{Mark}
 use Rattle.runs.specs.declared.shape.Shape.{Shape}

@@ -5,7 +5,7 @@ use Rattle.std.specs.List.{AllByRecursion}
 use Rattle.std.proofs.ByRecursion.{All-drop}
 use Rattle.std.proofs.lemmas.Option.{slice_get-get_or}
 use Rattle.std.proofs.lemmas.List.Sums.{sum_by-cons}
-use Rattle.std.proofs.lemmas.Bool.{ltb-true, true≢false}
+use Rattle.std.proofs.lemmas.Bool.{ltb-true}
 use Rattle.parts.specs.Formulas.{Measure, numeral, variable, unary, binary, over, Property, compare, prefixed, joined}
 use Rattle.parts.specs.Limits.{lawful, lawful_measure}
 use Rattle.parts.specs.declared.kinds.Comparator.{Comparator}
@@ -92,7 +92,7 @@ module _ (shape : Shape) (largest : ℕ) (mark : Mark) where
   ticks_dropped : (k : ℕ) (run : List State) → AllByRecursion (Fits shape) run → ticks run ≤ ticks (drop k run) + k * shape.longest
   ticks_dropped zero run fits = omega arith
   ticks_dropped (suc k) [] fits = omega arith
-  ticks_dropped (suc k) (s ∷ r) fits = omega (arith, ticks_dropped k r fits.1, fits.0.stay.1, ticks_cons s r, suc-mul k shape.longest)
+  ticks_dropped (suc k) (s ∷ r) fits = grind (arith, ticks_cons, suc-mul, ticks_dropped k r fits.1)
 
   -- inside a window measure stands no window
   windowless_reach : (m : Measure) → lawful_measure shape.width largest true m ≡ true → measure_reach m ≡ 1
@@ -100,7 +100,7 @@ module _ (shape : Shape) (largest : ℕ) (mark : Mark) where
   windowless_reach (variable v) h = refl
   windowless_reach (unary u m) h = windowless_reach m (unary_parts shape.width largest true u m h).0
   windowless_reach (binary b m n) h = let parts = binary_parts shape.width largest true b m n h in omega (arith, windowless_reach m parts.0, windowless_reach n parts.1)
-  windowless_reach (over s w m) h = absurd (true≢false (over_parts shape.width largest true s w m h).0)
+  windowless_reach (over s w m) h = grind (arith, over_parts)
 
   variable_known : (v : ℕ) → v < shape.width → (run : List State) → AllByRecursion (Fits shape) run → 1 ≤ ticks run → Known (value_at run 0 v)
   variable_known v h [] fits some = absurd (omega arith)
@@ -108,7 +108,7 @@ module _ (shape : Shape) (largest : ℕ) (mark : Mark) where
 
   value_reached : (inside : Bool) (m : Measure) → lawful_measure shape.width largest inside m ≡ true → (run : List State) → AllByRecursion (Fits shape) run → measure_reach m ≤ ticks run → Known (value m mark run)
   value_reached inside (numeral n) h run fits enough = known n
-  value_reached inside (variable v) h run fits enough = variable_known v (ltb-true v shape.width h) run fits enough
+  value_reached inside (variable v) h run fits enough = grind (arith, variable_known, ltb-true)
   value_reached inside (unary u m) h run fits enough = known_mapped (of_one u) (value_reached inside m (unary_parts shape.width largest inside u m h).0 run fits enough)
   value_reached inside (binary b m n) h run fits enough =
       let parts = binary_parts shape.width largest inside b m n h in
@@ -126,9 +126,7 @@ module _ (shape : Shape) (largest : ℕ) (mark : Mark) where
   rises_reached c m n needed some m_known n_known run fits enough = grind (arith, ticks_cons, further_reached, settled_compared, known_both, known_mapped)
 
   verdict_reached : (p : Property) → lawful shape.width largest p ≡ true → (run : List State) → AllByRecursion (Fits shape) run → reach_of shape.longest p ≤ ticks run → Settled (verdict p mark run)
-  verdict_reached (compare c Value m n) h run fits enough =
-      let parts = compare_parts shape.width largest c Value m n h in
-      settled_compared c (value_reached false m parts.0 run fits (omega arith)) (value_reached false n parts.1 run fits (omega arith))
+  verdict_reached (compare c Value m n) h run fits enough = grind (arith, compare_parts, settled_compared, value_reached)
   verdict_reached (compare c Change m n) h run fits enough =
       let parts = compare_parts shape.width largest c Change m n h in
       rises_reached c (value m mark) (value n mark) (max (measure_reach m) (measure_reach n)) (omega (arith, reach_of_measure m))

@@ -4,7 +4,7 @@ use Rattle.verdicts.specs.Windows.{Among, Rising}
 
 pub among_suc : (j : ℕ) (js : List ℕ) → Among j (map suc js) → (i : ℕ) × (j ≡ suc i) × Among i js
 among_suc j (i ∷ is) (inl e) = (i, e, inl refl)
-among_suc j (i ∷ is) (inr m) = let rest = among_suc j is m in (rest.0, rest.1, inr rest.2)
+among_suc j (i ∷ is) (inr m) = grind (arith, among_suc j is m)
 among_suc j [] m = absurd m
 
 pub suc_among : (i : ℕ) (js : List ℕ) → Among i js → Among (suc i) (map suc js)

@@ -1,9 +1,9 @@
 -- Lesser and greater of the three verdicts: order of operands, grouping, and one over the other. Assumes nothing.
-use Rattle.std.proofs.Common.{◌≡◌, ℕ, arith}
+use Rattle.std.proofs.Common.{◌≡◌, arith}
 use Rattle.verdicts.specs.Laws.{TablesByRank}
 use Rattle.verdicts.specs.Tables.{greater, lesser}
 use Rattle.verdicts.specs.declared.verdict.Verdict.{Verdict}
-use Rattle.verdicts.specs.declared.verdict.Verdict.TheVariants.{False, True, Undecided}
+use Rattle.verdicts.specs.declared.verdict.Verdict.TheVariants.{False, True}
 
 pub lesser_false : (v : Verdict) → lesser v False ≡ False
 lesser_false v = grind arith

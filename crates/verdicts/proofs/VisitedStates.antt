@@ -1,5 +1,5 @@
 -- A tour joins the states to which some moment of its window belongs, each once, in order; and it is a fold over them. Assumes nothing.
-use Rattle.std.proofs.Common.{◌≡◌, ℕ, zero, suc, ◌+◌, ◌-◌, ◌≤◌, Bool, true, false, cond, leb, ◌⊎◌, List, [], ◌∷◌, map, drop, sym, refl, ap, ◌∙◌, inl, inr, arith}
+use Rattle.std.proofs.Common.{◌≡◌, ℕ, zero, suc, ◌+◌, ◌-◌, ◌≤◌, Bool, true, false, cond, ◌⊎◌, List, [], ◌∷◌, map, drop, sym, refl, ap, ◌∙◌, inl, inr, arith}
 use mathlib.Core.List.{foldr}
 use Rattle.std.proofs.lemmas.Bool.{le-leb, or_left}
 use Rattle.std.specs.List.{AllByRecursion}
@@ -59,7 +59,7 @@ toured_rising begun ended js h = grind (arith, among_suc, rising_suc)
 
 places_rising : (mark : Mark) (a b : ℕ) (run : List State) → Rising (places mark a b run)
 places_rising mark a b [] = tt
-places_rising mark a b (s ∷ r) = toured_rising (within mark a s r) (within mark b s r) _ (places_rising mark (a - s.stay) (b - s.stay) r)
+places_rising mark a b (s ∷ r) = grind (arith, toured_rising, places_rising mark (a - s.stay) (b - s.stay) r)
 
 -- some moment from a to b belongs to state j
 abbrev Seen : Mark → ℕ → ℕ → List State → ℕ → Type 0
@@ -68,7 +68,7 @@ Seen mark a b run j = (t : ℕ) × (a ≤ t) × (t ≤ b) × Owns mark t run j
 -- moment 0 belongs where moment 1 does
 at_one : (mark : Mark) (r : List State) (j : ℕ) → AllByRecursion (λ s. 1 ≤ s.stay) r → Owns mark 0 r j → Owns mark 1 r j
 at_one mark [] j stays o = absurd o
-at_one mark (s ∷ r) zero stays o = or_left (leb 1 s.stay) _ (le-leb 1 s.stay stays.0)
+at_one mark (s ∷ r) zero stays o = grind (arith, or_left, le-leb)
 at_one mark (s ∷ r) (suc j) stays o = absurd (omega (arith, o.0))
 
 module _ (mark : Mark) (a b : ℕ) (s : State) (r : List State) (past : within mark b s r ≡ false) where
@@ -98,7 +98,7 @@ places_seen mark a b order (s ∷ r) stays j m = elim (toured_among (within mark
 
 seen_places : (mark : Mark) (a b : ℕ) (run : List State) (j : ℕ) → Seen mark a b run j → Among j (places mark a b run)
 seen_places mark a b [] j seen = absurd seen.3
-seen_places mark a b (s ∷ r) zero seen = first_among (within mark a s r) (within mark b s r) _ (within_order mark a seen.0 s r seen.1 seen.3)
+seen_places mark a b (s ∷ r) zero seen = grind (arith, first_among, within_order)
 seen_places mark a b (s ∷ r) (suc j) seen =
     let rest = seen_rest mark a b s r j seen in
     later_among (within mark a s r) (within mark b s r) _ (suc j) rest.0 (suc_among j _ (seen_places mark (a - s.stay) (b - s.stay) r j rest.1))

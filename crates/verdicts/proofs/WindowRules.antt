@@ -1,5 +1,5 @@
 -- Measures over a window, F, G and U, told along a tour, are as their rules say over the visited states. Assumes nothing.
-use Rattle.std.proofs.Common.{◌≡◌, ℕ, suc, Bool, cond, List, [], ◌∷◌, map, length, ℤ, Some, None, Option, sym, refl, ap, ◌∙◌, ap₂, arith}
+use Rattle.std.proofs.Common.{◌≡◌, ℕ, suc, Bool, cond, List, [], ◌∷◌, map, length, ℤ, Some, None, Option, sym, refl, ap, ◌∙◌, arith}
 use mathlib.Core.List.{foldr}
 use Rattle.std.specs.Option.{option_map}
 use Rattle.parts.specs.declared.kinds.Statistic.{Statistic}
@@ -32,19 +32,19 @@ fold_statistic s m told ts = grind (arith, collect_all, collect_none)
 module _ (p : List State → Verdict) where
   fold_eventually : (end : Verdict) (ts : List (List State)) → foldr (eventually_step p) end ts ≡ greater (greatest (map p ts)) end
   fold_eventually end [] = refl
-  fold_eventually end (t ∷ ts) = ap (greater (p t)) (fold_eventually end ts) ∙ sym (greater_assoc (p t) (greatest (map p ts)) end)
+  fold_eventually end (t ∷ ts) = grind (arith, greater_assoc, fold_eventually end ts)
 
   fold_always : (end : Verdict) (ts : List (List State)) → foldr (always_step p) end ts ≡ lesser (least (map p ts)) end
   fold_always end [] = refl
-  fold_always end (t ∷ ts) = ap (lesser (p t)) (fold_always end ts) ∙ sym (lesser_assoc (p t) (least (map p ts)) end)
+  fold_always end (t ∷ ts) = grind (arith, lesser_assoc, fold_always end ts)
 
 -- a lesser with one verdict goes into a greatest, where each of the others takes it
 greatest_lesser : (v : Verdict) (f g : ℕ → Verdict) → ((k : ℕ) → g (suc k) ≡ lesser v (f k)) → (ks : List ℕ) → greatest (map g (map suc ks)) ≡ lesser v (greatest (map f ks))
 greatest_lesser v f g each [] = sym (lesser_false v)
-greatest_lesser v f g each (k ∷ ks) = ap₂ greater (each k) (greatest_lesser v f g each ks) ∙ sym (lesser_greater v (f k) (greatest (map f ks)))
+greatest_lesser v f g each (k ∷ ks) = grind (arith, lesser_greater, greatest_lesser v f g each ks)
 
 swap_lessers : (u v w : Verdict) → lesser u (lesser v w) ≡ lesser v (lesser u w)
-swap_lessers u v w = sym (lesser_assoc u v w) ∙ ap (λ x. lesser x w) (lesser_comm u v) ∙ lesser_assoc v u w
+swap_lessers u v w = grind (arith, lesser_assoc, lesser_comm)
 
 module _ (p q : List State → Verdict) where
   abbrev untils : List (List State) → Verdict
@@ -59,10 +59,7 @@ module _ (p q : List State → Verdict) where
 
   fold_until : (end : Verdict) (ts : List (List State)) → foldr (until_step p q) end ts ≡ greater (untils ts) (lesser (least (map p ts)) end)
   fold_until end [] = refl
-  fold_until end (t ∷ ts) =
-      ap (λ x. greater (q t) (lesser (p t) x)) (fold_until end ts)
-      ∙ step (p t) (q t) (untils ts) (least (map p ts)) end
-      ∙ ap (λ x. greater x (lesser (lesser (p t) (least (map p ts))) end)) (sym (untils_cons t ts))
+  fold_until end (t ∷ ts) = grind (arith, step, untils_cons, fold_until end ts)
 
   end_until : (told : Bool) (l : Verdict) → lesser l (cond told False Undecided) ≡ cond told False (lesser Undecided l)
   end_until told l = grind arith
