@@ -1,9 +1,8 @@
-pub mod KeptFacts
-pub mod KeptState
 pub mod NotedWaypoints
 pub mod OneStateMore
 pub mod PackedChanges
 pub mod Places
-pub mod RecordedChanges
 pub mod ToldStates
+pub mod LastValues
 pub mod WrittenChanges
+pub mod KeptState

@@ -2,7 +2,7 @@
 use Rattle.std.proofs.Common.{◌≡◌, ℕ, suc, ◌+◌, ◌<◌, ◌≤◌, List, [], ◌∷◌, ◌++◌, length, get_or, drop, ℤ, pos, nat_abs, sym, refl, ap, ◌∙◌, zero-add, arith}
 use Rattle.std.proofs.lemmas.List.FromFn.{fill_by_all, get_or-map-range_with_len, length-map-range_with_len, map-range_with_len_more}
 use Rattle.std.proofs.lemmas.List.{drop_at, drop-drop, get_or-append-add, get_or_at, length-append, take_all}
-use Rattle.runs.specs.Feeding.{offered}
+use Rattle.runs.specs.Feeding.{state_of}
 use Rattle.changes.specs.Encoding.{changed_at, changes, changes_at, encoded, place_of, state_at, states_told, value_before, values_before}
 use Rattle.changes.proofs.PackedChanges.{changed_new}
 use Rattle.changes.proofs.Places.{place_kept, states_kept, value_kept}
@@ -39,13 +39,13 @@ module _ (width n : ℕ) (kept : List ℤ) (stay : ℤ) (news : List ℤ)
   pub values_more : values_before width (grown width n kept stay news) (suc n) ≡ news
   values_more = sym (fill_by_all (λ v. value_before (grown width n kept stay news) v (suc n)) news width (pos 0) wide value_more)
 
-  state_grown : state_at width (grown width n kept stay news) n ≡ offered stay news
+  state_grown : state_at width (grown width n kept stay news) n ≡ state_of (record { stay = stay; values = news })
   state_grown =
       let olds = values_before width kept n in
       let stays = ap nat_abs (get_or_at kept stay (pos (length (changes 0 news olds)) ∷ changes 0 news olds) (pos 0) (place_of (grown width n kept stay news) n) (sym place_grown)) in
       rw (values_more, stays)
 
-  pub states_more : states_told width (n + 1) (grown width n kept stay news) ≡ states_told width n kept ++ (offered stay news ∷ [])
+  pub states_more : states_told width (n + 1) (grown width n kept stay news) ≡ states_told width n kept ++ (state_of (record { stay = stay; values = news }) ∷ [])
   states_more =
       map-range_with_len_more (state_at width (grown width n kept stay news)) 0 n n (zero-add n)
       ∙ rw (states_kept kept (encoded stay news (values_before width kept n)) width n (omega arith), state_grown)

@@ -1,5 +1,6 @@
 -- A variable and its value are read back from their cell, and the new values from the changes. Assumes nothing.
-use Rattle.std.proofs.Common.{◌≡◌, ℕ, zero, suc, ◌+◌, ◌-◌, ◌*◌, ◌<◌, ◌≤◌, true, false, cond, List, [], ◌∷◌, ◌++◌, length, get_or, take, ℤ, pos, negsuc, is_some, Some, None, Option, sym, refl, ap, ◌∙◌, ⊎_elim, add-zero, zero-add, add-one, arith}
+use Rattle.std.proofs.Common.{◌≡◌, ℕ, zero, suc, ◌+◌, ◌-◌, ◌*◌, ◌<◌, ◌≤◌, true, cond, List, [], ◌∷◌, ◌++◌, length, get_or, take, ℤ, not, pos, negsuc, is_some, Some, None, Option, sym, refl, ap, ◌∙◌, ⊎_elim, add-zero, zero-add, add-one, arith}
+use Rattle.std.specs.List.{filter, zip}
 use Rattle.std.specs.Option.{option_to_list}
 use Rattle.std.proofs.lemmas.List.{append_assoc, append-nil, get_or-take, length-append, length_push, length-take}
 use Rattle.std.proofs.lemmas.Int.{ints}
@@ -23,13 +24,6 @@ same_true (pos a) (pos b) e = ap pos (eqb-true a b e)
 same_true (pos a) (negsuc b) e = cc
 same_true (negsuc a) (pos b) e = cc
 same_true (negsuc a) (negsuc b) e = ap negsuc (eqb-true a b e)
-
-same_refl : (a : ℤ) → same a a ≡ true
-same_refl (pos a) = eq-eqb a a refl
-same_refl (negsuc a) = eq-eqb a a refl
-
-same_other : (a b : ℤ) → (a ≡ b → ⊥) → same a b ≡ false
-same_other a b other = ⊎_elim (λ e. absurd (other (same_true a b e))) (λ e. e) (cases_Bool (same a b))
 
 -- what the change of one variable does to another variable, and to its own
 other_kept : (u v : ℕ) (new old x : ℤ) (cs : List ℤ) → u < 16 → (u ≡ v → ⊥) → changed_to v (option_to_list (change_of u new old) ++ cs) x ≡ changed_to v cs x
@@ -69,12 +63,6 @@ changes_step u (suc v) (new ∷ news) (old ∷ olds) there old_there =
     let at : u + suc v ≡ suc u + v = omega arith in
     rw at (ap (λ cs. option_to_list (change_of u new old) ++ cs) (changes_step (suc u) v news olds (omega arith) (omega arith)) ∙ sym (append_assoc (option_to_list (change_of u new old)) (changes (suc u) (take v news) olds) _))
 
-pub change_none : (v : ℕ) (new old : ℤ) → new ≡ old → None ≡ change_of v new old
-change_none v new old e = rw (e, same_refl old)
-
-pub change_some : (v : ℕ) (new old cell : ℤ) → (new ≡ old → ⊥) → cell ≡ packed new v → Some cell ≡ change_of v new old
-change_some v new old cell other e = rw (same_other new old other, e)
-
 length_list_of : (o : Option ℤ) → length (option_to_list o) ≡ cond (is_some o) 1 0
 length_list_of None = refl
 length_list_of (Some x) = refl
@@ -97,10 +85,6 @@ module _ (v width : ℕ) (news last : List ℤ) (there : v < length news) (named
       let short : v < length (take width last) = rw length-take (omega arith) in
       rw (add-one v) (changes_step 0 v news (take width last) there short ∙ rw (zero-add v, get_or-take width last v (pos 0) named))
 
-  pub count_more : (o : Option ℤ) → o ≡ change_of v (get_or news v (pos 0)) (get_or last v (pos 0)) → length (changes 0 (take (v + 1) news) (take width last)) ≡ length (changes 0 (take v news) (take width last)) + cond (is_some o) 1 0
-  count_more o told =
-      ap length changes_more ∙ length-append (changes 0 (take v news) (take width last)) _ ∙ ap (λ k. length (changes 0 (take v news) (take width last)) + k) (ap (λ p. length (option_to_list p)) (sym told) ∙ length_list_of o)
-
   pub told_none : None ≡ change_of v (get_or news v (pos 0)) (get_or last v (pos 0)) → changes 0 (take (v + 1) news) (take width last) ≡ changes 0 (take v news) (take width last)
   told_none e = changes_more ∙ ap (λ o. changes 0 (take v news) (take width last) ++ option_to_list o) (sym e) ∙ append-nil (changes 0 (take v news) (take width last))
 
@@ -109,3 +93,13 @@ module _ (v width : ℕ) (news last : List ℤ) (there : v < length news) (named
 
   pub change_fits : (c : ℤ) → Some c ≡ change_of v (get_or news v (pos 0)) (get_or last v (pos 0)) → length (changes 0 (take v news) (take width last)) < length (changes 0 news (take width last))
   change_fits c e = omega (arith, changes_upto 0 (v + 1) news (take width last), ap length (told_some c e) ∙ length_push (changes 0 (take v news) (take width last)) c)
+
+-- the changed values are those that differ from the old ones
+pub changes_filtered : (u : ℕ) (news olds : List ℤ) → length (filter (λ p. not (same p.0 p.1)) (zip news olds)) ≡ length (changes u news (take (length news) olds))
+changes_filtered u [] olds = refl
+changes_filtered u (new ∷ news) [] = refl
+changes_filtered u (new ∷ news) (old ∷ olds) =
+    ⊎_elim
+    (λ (e : same new old ≡ true). rw e (changes_filtered (suc u) news olds))
+    (λ e. rw e (ap suc (changes_filtered (suc u) news olds)))
+    (cases_Bool (same new old))

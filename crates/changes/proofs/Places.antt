@@ -1,15 +1,9 @@
 -- Where states begin, and that cells after them change nothing of what they tell. Assumes nothing.
-use Rattle.std.proofs.Common.{◌≡◌, ℕ, zero, suc, ◌+◌, ◌-◌, ◌<◌, ◌≤◌, List, ◌++◌, map, length, get_or, take, drop, replicate, ℤ, pos, nat_abs, sym, refl, ap, ◌∙◌, suc-add, zero-add, add-one, arith}
+use Rattle.std.proofs.Common.{◌≡◌, ℕ, zero, suc, ◌+◌, ◌-◌, ◌<◌, ◌≤◌, List, ◌++◌, map, length, get_or, take, drop, replicate, ℤ, pos, nat_abs, sym, refl, ap, ◌∙◌, suc-add, zero-add, arith}
 use Rattle.std.specs.List.{range_with_len}
 use Rattle.std.proofs.lemmas.List.FromFn.{fill_by_all, get_or-map-range_with_len, length-map-range_with_len}
-use Rattle.std.proofs.lemmas.List.{at_drop_more, drop-append-le, get_or_append_left, get_or-drop, get_or-replicate, get_or-take, length-drop, length-take, length-take-le, take-append-le}
-use Rattle.changes.specs.Encoding.{changed_at, changed_by, changed_to, changes_at, place_of, state_at, states_told, value_before, values_before}
-
-pub place_next : (cells : List ℤ) (n : ℕ) → place_of cells n + 2 + changed_at cells (place_of cells n) ≡ place_of cells (n + 1)
-place_next cells n = rw (add-one n)
-
-pub value_next : (cells : List ℤ) (v n : ℕ) → changed_to v (changes_at cells (place_of cells n)) (value_before cells v n) ≡ value_before cells v (n + 1)
-value_next cells v n = rw (add-one n)
+use Rattle.std.proofs.lemmas.List.{drop-append-le, get_or_append_left, get_or-replicate, get_or-take, length-drop, length-take-le, take-append-le}
+use Rattle.changes.specs.Encoding.{changed_at, changes_at, place_of, state_at, states_told, value_before, values_before}
 
 rises_by : (cells : List ℤ) (n more : ℕ) → place_of cells n ≤ place_of cells (more + n)
 rises_by cells n zero = rw zero-add (omega arith)
@@ -22,12 +16,9 @@ place_rises cells n m h = let e : m ≡ (m - n) + n = omega arith in rw e (rises
 pub place_fits : (cells : List ℤ) (n m used : ℕ) → place_of cells m ≡ used → n < m → place_of cells n + 2 + changed_at cells (place_of cells n) ≤ used
 place_fits cells n m used whole there = omega (arith, place_rises cells (suc n) m there)
 
--- one change of a state more
-pub change_next : (v : ℕ) (cells : List ℤ) (at k : ℕ) (value : ℤ) → k < changed_at cells at → at + 2 + changed_at cells at ≤ length cells → changed_to v (drop k (changes_at cells at)) value ≡ changed_to v (drop (k + 1) (changes_at cells at)) (changed_by v (get_or cells (at + 2 + k) (pos 0)) value)
-change_next v cells at k value more fits =
-    let there : k < length (changes_at cells at) = simp (length-take, length-drop) (omega arith) in
-    let cell : get_or (changes_at cells at) k (pos 0) ≡ get_or cells (at + 2 + k) (pos 0) = rw (get_or-take, get_or-drop) in
-    at_drop_more (λ cs. changed_to v cs value) (changes_at cells at) k (pos 0) there ∙ ap (λ c. changed_to v (drop (k + 1) (changes_at cells at)) (changed_by v c value)) cell
+-- the same where the walk stands, if no more states are told
+pub walk_fits : (cells : List ℤ) (n m at : ℕ) → place_of cells m ≡ length cells → at ≡ place_of cells n → n < m → at + 2 + changed_at cells at ≤ length cells
+walk_fits cells n m at whole here there = rw here (place_fits cells n m (length cells) whole there)
 
 same_counted : {X : Type 0} (f g : ℕ → X) (n : ℕ) → ((i : ℕ) → i < n → f i ≡ g i) → map f (range_with_len 0 n) ≡ map g (range_with_len 0 n)
 same_counted f g n each = fill_by_all g (map f (range_with_len 0 n)) n (f 0) (length-map-range_with_len f 0 n) (λ i h. get_or-map-range_with_len f 0 n i i (f 0) h (zero-add i) ∙ each i h)
@@ -37,10 +28,6 @@ pub values_start : (width : ℕ) (cells : List ℤ) → width ≤ 16 → take wi
 values_start width cells few =
     fill_by_all (λ v. pos 0) (take width (replicate 16 (pos 0))) width (pos 0) (length-take-le width (replicate 16 (pos 0)) few)
     (λ v h. get_or-take width (replicate 16 (pos 0)) v (pos 0) h ∙ get_or-replicate 16 v (pos 0) (pos 0) (omega arith))
-
--- an array whose first values those are has as many
-pub long_enough : (width : ℕ) (last cells : List ℤ) (n : ℕ) → take width last ≡ values_before width cells n → width ≤ length last
-long_enough width last cells n recent = omega (arith, sym (length-take width last) ∙ ap length recent ∙ length-map-range_with_len (λ v. value_before cells v n) 0 width)
 
 pub first_value : (width v n : ℕ) (cells values : List ℤ) → v < width → take width values ≡ values_before width cells n → get_or values v (pos 0) ≡ value_before cells v n
 first_value width v n cells values named are =

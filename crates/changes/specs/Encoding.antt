@@ -1,6 +1,6 @@
 -- How a state is told by what changes: its stay, the number of variables that change, and a cell for each of them. Assumes nothing.
 use Rattle.std.specs.Prelude.{ℕ, zero, suc, ◌+◌, Bool, false, cond, List, [], ◌∷◌, ◌++◌, map, length, take, drop, ℤ, pos, negsuc, ◌+ℤ◌, ◌*ℤ◌, Some, None, Option, ◌==◌, slice_index_or, unsigned_abs}
-use Rattle.std.specs.List.{range_with_len}
+use Rattle.std.specs.List.{fold, range_with_len}
 use Rattle.std.specs.Int.{int_div_euclid, int_rem_euclid}
 use Rattle.std.specs.Option.{option_to_list}
 use Rattle.runs.specs.Runs.{State}
@@ -56,8 +56,7 @@ abbrev pub changed_by : ℕ → ℤ → ℤ → ℤ
 changed_by v cell value = cond (variable_of cell == v) (value_of cell) value
 
 abbrev pub changed_to : ℕ → List ℤ → ℤ → ℤ
-changed_to v [] value = value
-changed_to v (c ∷ cs) value = changed_to v cs (changed_by v c value)
+changed_to v cs value = fold (λ before cell. changed_by v cell before) value cs
 
 -- a variable's value before state n: before state 0 each is 0
 abbrev pub value_before : List ℤ → ℕ → ℕ → ℤ

@@ -1,4 +1,3 @@
-pub mod ChangeRuns
+pub mod Coding
 pub mod Encoding
-pub mod Recorded
-pub mod Told
+pub mod Kept

@@ -1,14 +1,14 @@
 // Runs told by their changes: a state keeps only the variables whose values change.
 #![tactic(auto)]
 
-// A variable and its value in one cell.
-mod packing;
+// A variable and its new value, in one cell.
+mod change;
 // Places from which to walk to a state.
 mod waypoints;
-// The recorder.
-mod store;
+// How states lie in cells of changes.
+mod layout;
 // A worked value.
 mod worked;
 
-pub use store::Changes;
+pub use layout::{ChangeLayout, Changes};
 pub use worked::first_cells;

@@ -2,7 +2,7 @@
 ghost use Rattle.std.specs.Prelude.{◌≡◌, [], ◌∷◌, pos};
 
 use crate::Changes;
-use runs::{Call, Shape};
+use runs::{Call, Offer, Shape};
 
 // Width 2, stay 3, values 0 and 7: one variable changes, and 113 is 16 times 7 and the variable 1.
 pub fn first_cells() -> [i32; 3]
@@ -13,6 +13,10 @@ pub fn first_cells() -> [i32; 3]
         width: 2,
         longest: 10,
     };
-    Changes::record(&mut cells, shape, &[Call::Feed(3, &[0, 7])]);
+    let offer = Offer {
+        stay: 3,
+        values: &[0, 7],
+    };
+    Changes::record(&mut cells, shape, &[Call::Feed(offer)]);
     cells
 }

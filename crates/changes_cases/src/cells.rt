@@ -1,5 +1,5 @@
 // The cells that states fill, and how they are read back.
-use super::told::{PAIRS, feed, told};
+use super::told::{PAIRS, feed, offer, told};
 use changes::Changes;
 use runs::{Call, Recorder, Shape};
 use std::process::Abort;
@@ -48,7 +48,7 @@ fn the_last_variable_is_told_to_its_largest_magnitude(rt: HostRuntime) -> Result
     let mut values = [0; 16];
     values[0] = 100_000_000;
     values[15] = -100_000_000;
-    assert_eq!(rt; run.need(9, &values), 4);
+    assert_eq!(rt; run.need(offer(9, &values)), 4);
     feed(&mut run, 9, &values)?;
     values[15] = -1;
     feed(&mut run, 8, &values)?;
@@ -69,12 +69,12 @@ fn the_last_variable_is_told_to_its_largest_magnitude(rt: HostRuntime) -> Result
 fn calls_are_recorded_in_the_callers_cells(rt: HostRuntime) {
     let calls = [
         Call::Close,
-        Call::Feed(3, &[0, 7]),
-        Call::Feed(0, &[0, 8]),
-        Call::Feed(4, &[9, 9]),
-        Call::Feed(4, &[0, 7]),
+        Call::Feed(offer(3, &[0, 7])),
+        Call::Feed(offer(0, &[0, 8])),
+        Call::Feed(offer(4, &[9, 9])),
+        Call::Feed(offer(4, &[0, 7])),
         Call::Close,
-        Call::Feed(1, &[0, 7]),
+        Call::Feed(offer(1, &[0, 7])),
     ];
     let mut cells = [-5; 6];
     assert_eq!(rt; Changes::record(&mut cells, PAIRS, &calls), 2);

@@ -1,5 +1,5 @@
 // States that are refused, and runs that fill up.
-use super::told::{PAIRS, feed, told};
+use super::told::{PAIRS, feed, offer, told};
 use changes::Changes;
 use runs::Recorder;
 use std::test::Fail;
@@ -21,7 +21,7 @@ fn an_unlawful_state_needs_no_cell_and_changes_nothing(rt: HostRuntime) -> Resul
     let mut run = Changes::start(&mut cells, PAIRS);
     feed(&mut run, 3, &[0, 7])?;
     for (stay, values, number) in cases {
-        assert_eq!(rt; run.need(stay, values), 0);
+        assert_eq!(rt; run.need(offer(stay, values)), 0);
         assert_eq!(rt; feed(&mut run, stay, values), Err(number));
     }
     assert_eq!(rt; (run.count(), run.free()), (1, 5));
@@ -36,10 +36,10 @@ fn a_smaller_state_is_taken_after_a_full_one(rt: HostRuntime) -> Result<(), Fail
     feed(&mut run, 3, &[0, 7])?;
     feed(&mut run, 4, &[0, 7])?;
     // Two changes need four cells, and three are free.
-    assert_eq!(rt; (run.need(5, &[1, 8]), run.free()), (4, 3));
+    assert_eq!(rt; (run.need(offer(5, &[1, 8])), run.free()), (4, 3));
     assert_eq!(rt; feed(&mut run, 5, &[1, 8]), Err(13));
     assert_eq!(rt; feed(&mut run, 6, &[0, -8]), Ok(()));
-    assert_eq!(rt; (run.need(7, &[0, -8]), run.free()), (2, 0));
+    assert_eq!(rt; (run.need(offer(7, &[0, -8])), run.free()), (2, 0));
     assert_eq!(rt; feed(&mut run, 7, &[0, -8]), Err(13));
     assert_eq!(rt; told(&run, 2), (Some(6), Some(0), Some(-8)));
     assert_eq!(rt; cells, [3, 1, 113, 4, 0, 6, 1, -127]);

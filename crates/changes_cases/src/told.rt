@@ -1,17 +1,22 @@
 // A shape, and what is told of a run.
-use runs::{Recorder, Shape};
+// Some of it stands in the tests of runs too: the tests of changes are a crate of their own, so that a change in one proves little again.
+use runs::{Offer, Recorder, Shape};
 
 pub const PAIRS: Shape = Shape {
     width: 2,
     longest: 10,
 };
 
+// A state as it is offered, in short.
+pub fn offer(stay: i64, values: &[i64]) -> Offer<'_> {
+    Offer { stay, values }
+}
+
 // A feed, with its refusal as a number.
 pub fn feed<R: Recorder>(recorder: &mut R, stay: i64, values: &[i64]) -> Result<(), u8> {
-    match recorder.feed(stay, values) {
-        Ok(()) => Ok(()),
-        Err(refusal) => Err(refusal.number()),
-    }
+    recorder
+        .feed(offer(stay, values))
+        .map_err(|refusal| refusal.number())
 }
 
 // The stay of a state, and its first two values.

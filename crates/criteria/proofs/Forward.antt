@@ -1,6 +1,8 @@
 -- Reading goes forward: no reader leaves more tokens than there were.
 use Rattle.std.proofs.Common.{◌≡◌, ℕ, zero, suc, pred, ◌<◌, ◌≤◌, Bool, true, false, cond, ◌&&◌, ltb, leb, List, [], ◌∷◌, length, Some, None, Option, subst, arith}
 use Rattle.parts.specs.declared.kinds.Comparator.{Comparator}
+use Rattle.parts.specs.declared.kinds.Quantity.{Quantity}
+use Rattle.parts.specs.declared.kinds.Quantity.TheVariants.{Value, Change}
 use Rattle.tokens.specs.Tokens.{Spot, Tok, mark, change, comparator, unary, binary, statistic, prefix, connective, numeral, variable, stray, stop}
 use Rattle.tokens.specs.declared.words.ConnectiveSign.{ConnectiveSign}
 use Rattle.tokens.specs.declared.words.ConnectiveSign.TheVariants as connectives
@@ -109,20 +111,20 @@ unfolding measure
 measure_steady rules zero inside n s m h = measure_at_steady rules zero inside (λ inside n s. refuse 2 s) (λ i n s m h. tt) (first s).tok n s m h
 measure_steady rules (suc left) inside n s m h = measure_at_steady rules (suc left) inside (measure rules left) (measure_steady rules left) (first s).tok n s m h
 
-compared_by_steady : (rules : Rules) (left : ℕ) (changes : Bool) (l : MeasureTree) (o : Option Comparator) → Steady (compared_by rules left changes l o)
-compared_by_steady rules left changes l None n s m h = tt
-compared_by_steady rules left changes l (Some c) n s m h =
+compared_by_steady : (rules : Rules) (left : ℕ) (q : Quantity) (l : MeasureTree) (o : Option Comparator) → Steady (compared_by rules left q l o)
+compared_by_steady rules left q l None n s m h = tt
+compared_by_steady rules left q l (Some c) n s m h =
     then_within (bring rules n s) _ m (bring_steady rules n s m h) (λ _ n s h.
     then_within (measure rules left false n (rest s)) _ m (measure_steady rules left false n (rest s) m (rest_within s m h)) (λ r n s h. h))
 
 comparison_steady : (rules : Rules) (left : ℕ) → Steady (comparison rules left)
-comparison_steady rules left n s m h = then_within (measure rules left false n s) (compared rules left false) m (measure_steady rules left false n s m h) (λ l n s h. compared_by_steady rules left false l (comparator_of (first s).tok) n s m h)
+comparison_steady rules left n s m h = then_within (measure rules left false n s) (compared rules left Value) m (measure_steady rules left false n s m h) (λ l n s h. compared_by_steady rules left Value l (comparator_of (first s).tok) n s m h)
 
 change_steady : (rules : Rules) (left : ℕ) → Steady (change_comparison rules left)
 change_steady rules left n s m h =
     then_within (opening left n (rest s)) _ m (opening_steady left n (rest s) m (rest_within s m h)) (λ _ n s h.
     then_within (measure rules (pred left) false n s) _ m (measure_steady rules (pred left) false n s m h) (λ l n s h.
-    then_within (punctuation Close n s) _ m (punctuation_steady Close n s m h) (λ _ n s h. compared_by_steady rules left true l (comparator_of (first s).tok) n s m h)))
+    then_within (punctuation Close n s) _ m (punctuation_steady Close n s m h) (λ _ n s h. compared_by_steady rules left Change l (comparator_of (first s).tok) n s m h)))
 
 index_steady : (rules : Rules) (o : Option (Sign × ℕ)) → Steady (index_by rules o)
 index_steady rules None n s m h = tt

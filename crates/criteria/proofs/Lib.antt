@@ -3,7 +3,6 @@ pub mod Comparisons
 pub mod ExactTexts
 pub mod Formulas
 pub mod Forward
-pub mod Layers
 pub mod Links
 pub mod Measures
 pub mod Passing

@@ -12,13 +12,13 @@ use Rattle.grammar.specs.Reading.{Outcome, Reader, got, fault, and_then, bring, 
 use Rattle.grammar.specs.Steps.{Rules}
 use Rattle.grammar.specs.Trees as tree
 use Rattle.grammar.specs.Trees.{Link, PropertyTree}
-use Rattle.criteria.specs.States.{View, Follows, grown, image, moved}
+use Rattle.criteria.specs.States.{View, Follows, image, moved}
 use Rattle.criteria.specs.Ways.{Ends, behind_left, columns_of, linked_way, links_way, operand_way, proposing, rules_of, tier_way}
 use Rattle.criteria.specs.declared.fault.Breach.{Breach}
 use Rattle.criteria.specs.declared.scope.Scope.{Scope}
 use Rattle.criteria.proofs.Comparisons.{Fits}
 use Rattle.criteria.proofs.Forward.{linked_forward, some_left}
-use Rattle.criteria.proofs.Passing.{Grown, both, breaks, follows, goes, longer, passed, reads_as, same_got, then_got, wrote}
+use Rattle.criteria.proofs.Passing.{Grown, both, breaks, follows, goes, grew, longer, passed, reads_as, same_got, scoped, then_got}
 
 linked_found : (rules : Rules) (inner : Reader PropertyTree) (p : PropertyTree) (x : ConnectiveSign) (n : ℕ) (s : List Spot) (a : PropertyTree) (k : ℕ) (u : List Spot) → linked rules inner p x n s ≡ got a k u → (l : Link) × (q : PropertyTree) × (a ≡ tree.joined l p q)
 linked_found rules inner p x n s a k u e =
@@ -54,61 +54,50 @@ links_none zero rules level inner p n s e = refl
 links_none (suc m) rules level inner p n s e = ap (λ (o : Option ConnectiveSign). elim o [ None ↦ got p n s | Some x ↦ and_then (linked rules inner p x n s) (links m rules level inner) ]) (sym e)
 
 -- the whole reading goes on from here, behind the tree that was read so far
-pub record Reached (scope : Scope) (left level : ℕ) (p : PropertyTree) (v : View) (at : ℕ) (w : View) : Type 0 where
+pub record Reached (left level : ℕ) (p : PropertyTree) (v : View) (at : ℕ) (w : View) : Type 0 where
   pub most : ℕ
   pub found : PropertyTree
   pub enough : length w.spots ≤ most
-  pub reads : (links_way scope left level p).read v.brought v.spots ≡ links most (rules_of scope) level (tier (rules_of scope) (operand (rules_of scope) left) (level - 1)) found w.brought w.spots
-  pub grew : Grown v (property_parts (length v.parts) (property_of (columns_of scope) found)) w
-  pub place : at ≡ length v.parts + property_size (property_of (columns_of scope) found) - 1
+  pub reads : (links_way v.scope left level p).read v.brought v.spots ≡ links most (rules_of v.scope) level (tier (rules_of v.scope) (operand (rules_of v.scope) left) (level - 1)) found w.brought w.spots
+  pub grew : Grown v (property_parts (length v.parts) (property_of (columns_of v.scope) found)) w
+  pub place : at ≡ length v.parts + property_size (property_of (columns_of v.scope) found) - 1
 
-module _ (scope : Scope) (left level : ℕ) (p : PropertyTree) (v : View) where
-  pub reached_first : (at : ℕ) (w : View) → Ends (columns_of scope) v p w at → Reached scope left level p v at w
-  reached_first at w e = record {
-    most = length v.spots;
-    found = p;
-    enough = omega (arith, ap (λ (y : View). length y.spots) e.state);
-    reads = ap (λ (y : View). links (length v.spots) (rules_of scope) level (tier (rules_of scope) (operand (rules_of scope) left) (level - 1)) p y.brought y.spots) (sym e.state);
-    grew = wrote v w (property_parts (length v.parts) (property_of (columns_of scope) p)) v.brought v.spots e.state;
-    place = e.place;
-  }
+module _ (left level : ℕ) (p : PropertyTree) (v : View) (at : ℕ) (w : View) (r : Reached left level p v at w) where
+  pub reached_more : (x : ConnectiveSign) (next : ℕ) (u : View) → Some x ≡ sign_at level (first w.spots).tok → Follows (linked_way w.scope left (level - 1) r.found x at) w (Ok next) u → Reached left level p v next u
+  reached_more x next u sign h =
+      let rules = rules_of v.scope in
+      let inner = tier rules (operand rules left) (level - 1) in
+      let base = length v.parts in
+      let P = property_of (columns_of v.scope) r.found in
+      let q = passed (linked_way v.scope left (level - 1) r.found x at) w next u (scoped (λ s. linked_way s left (level - 1) r.found x at) w (Ok next) u r.grew.scope h) in
+      let on = links_on r.most rules level inner r.found w.brought w.spots x sign r.enough in
+      let f = linked_found rules inner r.found x w.brought w.spots q.found u.brought u.spots q.reads in
+      let fits : Fits (columns_of v.scope) (property_parts base P) at base (length w.parts) q.found =
+      subst (λ (a : PropertyTree). Fits (columns_of v.scope) (property_parts base P) at base (length w.parts) a) (sym f.2)
+      (joined_fits (columns_of v.scope) f.0 r.found f.1 at base (length w.parts) (omega (arith, longer v w (property_parts base P) r.grew, length_property_parts P base)) r.place) in
+      record {
+        most = on.0;
+        found = q.found;
+        enough = omega (arith, r.enough, on.1, linked_forward rules left (level - 1) level r.found x w.brought w.spots q.found u.brought u.spots sign q.reads);
+        reads = r.reads ∙ on.2 ∙ goes (links on.0 rules level inner) q.reads;
+        grew = subst (λ (qs : List Part). Grown v qs u) (sym fits.parts) (both v w u (property_parts base P) (behind_left at (length w.parts) (property_of (columns_of v.scope) q.found)) r.grew q.grew);
+        place = q.value ∙ sym fits.size;
+      }
 
-  module _ (at : ℕ) (w : View) (r : Reached scope left level p v at w) where
-    pub reached_more : (x : ConnectiveSign) (next : ℕ) (u : View) → Some x ≡ sign_at level (first w.spots).tok → Follows (linked_way scope left (level - 1) r.found x at) w (Ok next) u → Reached scope left level p v next u
-    reached_more x next u sign h =
-        let rules = rules_of scope in
-        let inner = tier rules (operand rules left) (level - 1) in
-        let base = length v.parts in
-        let P = property_of (columns_of scope) r.found in
-        let q = passed (linked_way scope left (level - 1) r.found x at) w next u h in
-        let on = links_on r.most rules level inner r.found w.brought w.spots x sign r.enough in
-        let f = linked_found rules inner r.found x w.brought w.spots q.found u.brought u.spots q.reads in
-        let fits : Fits (columns_of scope) (property_parts base P) at base (length w.parts) q.found =
-        subst (λ (a : PropertyTree). Fits (columns_of scope) (property_parts base P) at base (length w.parts) a) (sym f.2)
-        (joined_fits (columns_of scope) f.0 r.found f.1 at base (length w.parts) (omega (arith, longer v w (property_parts base P) r.grew, length_property_parts P base)) r.place) in
-        record {
-          most = on.0;
-          found = q.found;
-          enough = omega (arith, r.enough, on.1, linked_forward rules left (level - 1) level r.found x w.brought w.spots q.found u.brought u.spots sign q.reads);
-          reads = r.reads ∙ on.2 ∙ goes (links on.0 rules level inner) q.reads;
-          grew = subst (λ (qs : List Part). Grown v qs u) (sym fits.parts) (both v w u (property_parts base P) (behind_left at (length w.parts) (property_of (columns_of scope) q.found)) r.grew q.grew);
-          place = q.value ∙ sym fits.size;
-        }
+  pub reached_broken : (x : ConnectiveSign) (e : Breach) (u z : View) → Some x ≡ sign_at level (first w.spots).tok → Follows (linked_way w.scope left (level - 1) r.found x at) w (Err e) u → Follows (links_way v.scope left level p) v (Err e) z
+  reached_broken x e u z sign h =
+      let rules = rules_of v.scope in
+      let inner = tier rules (operand rules left) (level - 1) in
+      let on = links_on r.most rules level inner r.found w.brought w.spots x sign r.enough in
+      breaks (linked_way v.scope left (level - 1) r.found x at) (links_way v.scope left level p) v w e u z (links on.0 rules level inner) (r.reads ∙ on.2) (scoped (λ s. linked_way s left (level - 1) r.found x at) w (Err e) u r.grew.scope h)
 
-    pub reached_broken : (x : ConnectiveSign) (e : Breach) (u z : View) → Some x ≡ sign_at level (first w.spots).tok → Follows (linked_way scope left (level - 1) r.found x at) w (Err e) u → Follows (links_way scope left level p) v (Err e) z
-    reached_broken x e u z sign h =
-        let rules = rules_of scope in
-        let inner = tier rules (operand rules left) (level - 1) in
-        let on = links_on r.most rules level inner r.found w.brought w.spots x sign r.enough in
-        breaks (linked_way scope left (level - 1) r.found x at) (links_way scope left level p) v w e u z (links on.0 rules level inner) (r.reads ∙ on.2) h
-
-    pub reached_all : None ≡ sign_at level (first w.spots).tok → Follows (links_way scope left level p) v (Ok at) w
-    reached_all none = follows (links_way scope left level p) v at w (record {
-      found = r.found;
-      reads = r.reads ∙ links_none r.most (rules_of scope) level (tier (rules_of scope) (operand (rules_of scope) left) (level - 1)) r.found w.brought w.spots none;
-      value = r.place;
-      grew = r.grew;
-    })
+  pub reached_all : None ≡ sign_at level (first w.spots).tok → Follows (links_way v.scope left level p) v (Ok at) w
+  reached_all none = follows (links_way v.scope left level p) v at w (record {
+    found = r.found;
+    reads = r.reads ∙ links_none r.most (rules_of v.scope) level (tier (rules_of v.scope) (operand (rules_of v.scope) left) (level - 1)) r.found w.brought w.spots none;
+    value = r.place;
+    grew = r.grew;
+  })
 
 -- a link leaves fewer tokens
 pub link_forward : (scope : Scope) (left level : ℕ) (x : ConnectiveSign) (at next : ℕ) (w u : View) → Some x ≡ sign_at level (first w.spots).tok → ((p : PropertyTree) → Follows (linked_way scope left (level - 1) p x at) w (Ok next) u) → (p : PropertyTree) → length u.spots < length w.spots
@@ -138,22 +127,19 @@ moved_image : (columns : Columns) (f g : Reader PropertyTree) (v : View) (n : �
 moved_image columns f g v n s (got a k u) = refl
 moved_image columns f g v n s (fault number place u) = refl
 
-module _ (scope : Scope) (left level : ℕ) (some : level ≡ 0 → ⊥) (v : View) where
+module _ (left level : ℕ) (some : level ≡ 0 → ⊥) (v : View) where
   abbrev behind_tier : PropertyTree → Reader PropertyTree
-  behind_tier p n s = links (length s) (rules_of scope) level (tier (rules_of scope) (operand (rules_of scope) left) (level - 1)) p n s
+  behind_tier p n s = links (length s) (rules_of v.scope) level (tier (rules_of v.scope) (operand (rules_of v.scope) left) (level - 1)) p n s
 
-  pub tier_broken : (w x : View) (e : Breach) → Follows (tier_way scope left (level - 1)) v (Err e) w → Follows (tier_way scope left level) v (Err e) x
-  tier_broken w x e h = breaks (tier_way scope left (level - 1)) (tier_way scope left level) v v e w x behind_tier (tier_step (rules_of scope) (operand (rules_of scope) left) level v.brought v.spots some) h
+  pub tier_broken : (w x : View) (e : Breach) → Follows (tier_way v.scope left (level - 1)) v (Err e) w → Follows (tier_way v.scope left level) v (Err e) x
+  tier_broken w x e h = breaks (tier_way v.scope left (level - 1)) (tier_way v.scope left level) v v e w x behind_tier (tier_step (rules_of v.scope) (operand (rules_of v.scope) left) level v.brought v.spots some) h
 
-  pub tier_read : (u : View) (at : ℕ) (r : Result ℕ Breach) (w : View) → Follows (tier_way scope left (level - 1)) v (Ok at) u → ((p : PropertyTree) (x : View) → Ends (columns_of scope) x p u at → Follows (links_way scope left level p) x r w) → Follows (tier_way scope left level) v r w
+  pub tier_read : (u : View) (at : ℕ) (r : Result ℕ Breach) (w : View) → Follows (tier_way v.scope left (level - 1)) v (Ok at) u → ((p : PropertyTree) (x : View) → Ends (columns_of x.scope) x p u at → Follows (links_way x.scope left level p) x r w) → Follows (tier_way v.scope left level) v r w
   tier_read u at r w h k =
-      let p = passed (tier_way scope left (level - 1)) v at u h in
+      let p = passed (tier_way v.scope left (level - 1)) v at u h in
       let here = length v.parts in
-      let ps = property_parts here (property_of (columns_of scope) p.found) in
+      let ps = property_parts here (property_of (columns_of v.scope) p.found) in
       let x = moved v u.brought u.spots in
-      let state : u ≡ grown x ps u.brought u.spots =
-      ap (λ (qs : List Part). record { brought = u.brought; spots = u.spots; parts = qs; behind = u.behind }) p.grew.parts
-      ∙ ap (λ (qs : List Part). record { brought = u.brought; spots = u.spots; parts = v.parts ++ ps; behind = qs }) p.grew.behind in
-      k p.found x (record { state = state; place = p.value })
-      ∙ moved_image (columns_of scope) (links_way scope left level p.found).read (tier_way scope left level).read v u.brought u.spots ((links_way scope left level p.found).read u.brought u.spots)
-      ∙ ap (λ (o : Outcome PropertyTree). image (tier_way scope left level) v o) (sym (tier_step (rules_of scope) (operand (rules_of scope) left) level v.brought v.spots some ∙ goes behind_tier p.reads))
+      k p.found x (record { state = grew v u ps p.grew; place = p.value })
+      ∙ moved_image (columns_of v.scope) (links_way v.scope left level p.found).read (tier_way v.scope left level).read v u.brought u.spots ((links_way v.scope left level p.found).read u.brought u.spots)
+      ∙ ap (λ (o : Outcome PropertyTree). image (tier_way v.scope left level) v o) (sym (tier_step (rules_of v.scope) (operand (rules_of v.scope) left) level v.brought v.spots some ∙ goes behind_tier p.reads))

@@ -1,22 +1,24 @@
 -- What a call's answer tells of the grammar's reading, and how calls one after the other make up a reading.
-use Rattle.std.proofs.Common.{◌≡◌, ℕ, ◌+◌, List, [], ◌++◌, length, drop, IfOk, Ok, Err, Result, sym, refl, ap, ◌∙◌, arith}
+use Rattle.std.proofs.Common.{◌≡◌, ℕ, ◌+◌, List, [], ◌++◌, length, drop, Ok, Err, Result, sym, refl, ap, ◌∙◌, subst, arith}
 use Rattle.std.proofs.lemmas.List.{append-nil, append_assoc, length-append, drop-drop}
 use Rattle.parts.specs.declared.kinds.Part.{Part}
 use Rattle.tokens.specs.Tokens.{Spot}
 use Rattle.grammar.specs.Reading.{Outcome, Reader, got, fault, and_then}
 use Rattle.criteria.specs.Refusals.{rule_number}
-use Rattle.criteria.specs.States.{View, Way, image, Balanced, Follows, grown, moved}
+use Rattle.criteria.specs.States.{View, Way, image, Follows, grown, moved}
 use Rattle.criteria.specs.Ways.{silent}
 use Rattle.criteria.specs.declared.fault.Breach.{Breach}
-use Rattle.criteria.specs.declared.reader.Reader as held
+use Rattle.criteria.specs.declared.scope.Scope.{Scope}
 
 -- these parts are written behind those that were there
 pub record Grown (v : View) (ps : List Part) (w : View) : Type 0 where
+  pub scope : w.scope ≡ v.scope
   pub parts : w.parts ≡ v.parts ++ ps
   pub behind : w.behind ≡ drop (length ps) v.behind
 
 pub both : (v w x : View) (ps qs : List Part) → Grown v ps w → Grown w qs x → Grown v (ps ++ qs) x
 both v w x ps qs g h = record {
+  scope = h.scope ∙ g.scope;
   parts = h.parts ∙ ap (λ (l : List Part). l ++ qs) g.parts ∙ append_assoc v.parts ps qs;
   behind =
       h.behind
@@ -29,10 +31,10 @@ pub longer : (v w : View) (ps : List Part) → Grown v ps w → length w.parts �
 longer v w ps g = ap (λ (l : List Part). length l) g.parts ∙ length-append v.parts ps
 
 pub unmoved : (v w : View) (n : ℕ) (s : List Spot) → w ≡ moved v n s → Grown v [] w
-unmoved v w n s e = record { parts = ap (λ (u : View). u.parts) e ∙ sym (append-nil v.parts); behind = ap (λ (u : View). u.behind) e }
+unmoved v w n s e = record { scope = ap (λ (u : View). u.scope) e; parts = ap (λ (u : View). u.parts) e ∙ sym (append-nil v.parts); behind = ap (λ (u : View). u.behind) e }
 
 pub wrote : (v w : View) (ps : List Part) (n : ℕ) (s : List Spot) → w ≡ grown v ps n s → Grown v ps w
-wrote v w ps n s e = record { parts = ap (λ (u : View). u.parts) e; behind = ap (λ (u : View). u.behind) e }
+wrote v w ps n s e = record { scope = ap (λ (u : View). u.scope) e; parts = ap (λ (u : View). u.parts) e; behind = ap (λ (u : View). u.behind) e }
 
 -- a call that was not refused: what the reading got, and what that makes of the answer and the state
 pub record Passed {A B : Type 0} (way : Way A B) (v : View) (x : B) (w : View) : Type 0 where
@@ -83,13 +85,18 @@ stopped_by way v b (fault number place s) read e = record { left = s; reads = re
 pub stopped : {A B : Type 0} (way : Way A B) (v : View) (b : Breach) (w : View) → Follows way v (Err b) w → Stopped way v b
 stopped way v b w e = stopped_by way v b (way.read v.brought v.spots) refl e
 
+pub grew : (v w : View) (ps : List Part) → Grown v ps w → w ≡ grown v ps w.brought w.spots
+grew v w ps g =
+    ap (λ (scope : Scope). record { scope = scope; brought = w.brought; spots = w.spots; parts = w.parts; behind = w.behind }) g.scope
+    ∙ ap (λ (qs : List Part). record { scope = v.scope; brought = w.brought; spots = w.spots; parts = qs; behind = w.behind }) g.parts
+    ∙ ap (λ (qs : List Part). record { scope = v.scope; brought = w.brought; spots = w.spots; parts = v.parts ++ ps; behind = qs }) g.behind
+
 -- and back
 pub follows : {A B : Type 0} (way : Way A B) (v : View) (x : B) (w : View) → Passed way v x w → Follows way v (Ok x) w
 follows way v x w p =
     ap (λ (y : _). Ok (y, w)) p.value
     ∙ ap (λ (u : View). Ok (way.value (length v.parts) p.found, u))
-    (ap (λ (qs : List Part). record { brought = w.brought; spots = w.spots; parts = qs; behind = w.behind }) p.grew.parts
-    ∙ ap (λ (qs : List Part). record { brought = w.brought; spots = w.spots; parts = v.parts ++ way.parts (length v.parts) p.found; behind = qs }) p.grew.behind)
+    (grew v w (way.parts (length v.parts) p.found) p.grew)
     ∙ ap (image way v) (sym p.reads)
 
 pub refuses : {A B : Type 0} (way : Way A B) (v : View) (b : Breach) (w : View) → Stopped way v b → Follows way v (Err b) w
@@ -119,23 +126,17 @@ reads_as f g value parts v r w e h = h ∙ ap (λ (o : Outcome _). image (record
 -- a silent call goes on after others that wrote nothing
 silent_image : {A B : Type 0} (f g : Reader A) (value : A → B) (u v : View) (o : Outcome A) → Grown v [] u → image (silent f value) u o ≡ image (silent g value) v o
 silent_image f g value u v (got a n s) h =
-    ap (λ (ps : List Part). Ok (value a, record { brought = n; spots = s; parts = ps ++ []; behind = u.behind })) (h.parts ∙ append-nil v.parts)
-    ∙ ap (λ (ps : List Part). Ok (value a, record { brought = n; spots = s; parts = v.parts ++ []; behind = ps })) h.behind
+    ap (λ (scope : Scope). Ok (value a, record { scope = scope; brought = n; spots = s; parts = u.parts ++ []; behind = u.behind })) h.scope
+    ∙ ap (λ (ps : List Part). Ok (value a, record { scope = v.scope; brought = n; spots = s; parts = ps ++ []; behind = u.behind })) (h.parts ∙ append-nil v.parts)
+    ∙ ap (λ (ps : List Part). Ok (value a, record { scope = v.scope; brought = n; spots = s; parts = v.parts ++ []; behind = ps })) h.behind
 silent_image f g value u v (fault number place s) h = refl
 
 pub goes_on : {A B : Type 0} (f g : Reader A) (value : A → B) (u v : View) (r : Result B Breach) (w : View) → Grown v [] u → g v.brought v.spots ≡ f u.brought u.spots → Follows (silent f value) u r w → Follows (silent g value) v r w
 goes_on f g value u v r w h e k = k ∙ silent_image f g value u v (f u.brought u.spots) h ∙ ap (λ (o : Outcome _). image (silent g value) v o) (sym e)
 
--- what is balanced stays so through more calls
-pub balanced_first : (a : held.Reader) → Balanced a a
-balanced_first a = omega arith
-
-pub balanced_on : (a b d : held.Reader) → Balanced a b → Balanced b d → Balanced a d
-balanced_on a b d p q = omega arith
-
-pub balanced_through : {B : Type 0} (r : Result B Breach) (a b d : held.Reader) → Balanced a b → IfOk r (λ _. Balanced b d) → IfOk r (λ _. Balanced a d)
-balanced_through (Ok x) a b d p q = balanced_on a b d p q
-balanced_through (Err e) a b d p q = tt
+-- a call that goes on in the same scope
+pub scoped : {A B : Type 0} {s t : Scope} (way : Scope → Way A B) (u : View) (r : Result B Breach) (w : View) → t ≡ s → Follows (way t) u r w → Follows (way s) u r w
+scoped way u r w e h = subst (λ (s : Scope). Follows (way s) u r w) e h
 
 -- where a reading of two got something, so did the second
 pub then_got : {A C : Type 0} (o : Outcome A) (f : A → Reader C) (c : C) (k : ℕ) (u : List Spot) → and_then o f ≡ got c k u → (a : A) × (n : ℕ) × (t : List Spot) × (f a n t ≡ got c k u)

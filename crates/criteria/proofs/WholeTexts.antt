@@ -1,5 +1,5 @@
 -- A whole text, told from the formula that its reading begins with: it is read if the text ends behind the formula, and else refused there.
-use Rattle.std.proofs.Common.{◌≡◌, ℕ, zero, suc, ◌-◌, Bool, true, false, cond, List, length, drop, replicate, Ok, sym, refl, ap, ◌∙◌}
+use Rattle.std.proofs.Common.{◌≡◌, ℕ, zero, suc, ◌-◌, Bool, true, cond, List, length, drop, replicate, Ok, sym, ap, ◌∙◌}
 use native.Mathlib.Nat.{sub-zero, suc-sub-suc, zero-sub}
 use Rattle.records.specs.Told.{names}
 use Rattle.parts.specs.Order.{parts_of}
@@ -7,15 +7,12 @@ use Rattle.parts.specs.declared.kinds.Part.{Part}
 use Rattle.tokens.specs.Lexing.{spots}
 use Rattle.tokens.specs.Tokens.{Spot, is_stop}
 use Rattle.grammar.specs.Meanings.{property_of}
-use Rattle.grammar.specs.Reading.{Outcome, got, fault, and_then, first, formula, reading, refuse}
+use Rattle.grammar.specs.Reading.{Outcome, got, and_then, first, formula, reading, refuse}
 use Rattle.grammar.specs.Steps.{Rules}
 use Rattle.grammar.specs.Trees.{PropertyTree}
 use Rattle.criteria.specs.Formulas.{blank, is_formula}
-use Rattle.criteria.specs.Refusals.{rule_number, rule_with}
 use Rattle.criteria.specs.States.{Follows, View, unread}
 use Rattle.criteria.specs.Ways.{columns_of, rules_of, tier_way}
-use Rattle.criteria.specs.declared.fault.Rule.{Rule}
-use Rattle.criteria.specs.declared.fault.Rule.TheVariants.{Grammar, Limit, Order, Column, Size, Bound}
 use Rattle.criteria.specs.declared.scope.Scope.{Scope}
 use Rattle.criteria.proofs.ExactTexts.{read_formula}
 use Rattle.criteria.proofs.Passing.{passed}
@@ -29,20 +26,6 @@ behind rules t e = ap (λ (o : Outcome PropertyTree). and_then o (λ p n s. cond
 pub text_read : (rules : Rules) {p : PropertyTree} {n : ℕ} {s : List Spot} (t : List Spot) → formula rules rules.nesting 0 t ≡ got p n s → is_stop (first s).tok ≡ true → reading rules t ≡ got p n s
 text_read rules {p} {n} {s} t e stops = behind rules t e ∙ ap (ended p n s) stops
 
-pub text_goes_on : (rules : Rules) {p : PropertyTree} {n : ℕ} {s : List Spot} (t : List Spot) → formula rules rules.nesting 0 t ≡ got p n s → is_stop (first s).tok ≡ false → reading rules t ≡ refuse 2 s
-text_goes_on rules {p} {n} {s} t e goes = behind rules t e ∙ ap (ended p n s) goes
-
-pub text_refused : (rules : Rules) {number place : ℕ} {s : List Spot} (t : List Spot) → formula rules rules.nesting 0 t ≡ fault number place s → reading rules t ≡ fault number place s
-text_refused rules t e = ap (λ (o : Outcome PropertyTree). and_then o (λ p n s. cond (is_stop (first s).tok) (got p n s) (refuse 2 s))) e
-
-pub rule_of_its_number : (r : Rule) → rule_with (rule_number r) ≡ r
-rule_of_its_number Grammar = refl
-rule_of_its_number Limit = refl
-rule_of_its_number Order = refl
-rule_of_its_number Column = refl
-rule_of_its_number Size = refl
-rule_of_its_number Bound = refl
-
 -- the places behind the parts stay as they were
 pub drop_replicate : {A : Type 0} (k n : ℕ) (x : A) → drop k (replicate n x) ≡ replicate (n - k) x
 drop_replicate zero n x = ap (λ (m : ℕ). replicate m x) (sym (sub-zero n))
@@ -50,16 +33,16 @@ drop_replicate (suc k) zero x = ap (λ (m : ℕ). replicate m x) (sym (zero-sub 
 drop_replicate (suc k) (suc n) x = drop_replicate k n x ∙ ap (λ (m : ℕ). replicate m x) (sym (suc-sub-suc n k))
 
 -- what stands in the reader once a whole text is read
-pub record Complete (scope : Scope) (w : View) : Type 0 where
-  pub lawful : is_formula (length (names scope.header)) scope.magnitude w.parts ≡ true
+pub record Complete (w : View) : Type 0 where
+  pub lawful : is_formula (length (names w.scope.header)) w.scope.magnitude w.parts ≡ true
   pub rest : w.behind ≡ replicate (128 - length w.parts) blank
 
-pub whole_text : (scope : Scope) (text : List ℕ) (x : ℕ) (w : View) → Follows (tier_way scope 32 5) (unread text) (Ok x) w → is_stop (first w.spots).tok ≡ true → Complete scope w
+pub whole_text : (scope : Scope) (text : List ℕ) (x : ℕ) (w : View) → Follows (tier_way scope 32 5) (unread scope text) (Ok x) w → is_stop (first w.spots).tok ≡ true → Complete w
 whole_text scope text x w e stops =
-    let p = passed (tier_way scope 32 5) (unread text) x w e in
+    let p = passed (tier_way scope 32 5) (unread scope text) x w e in
     let read = text_read (rules_of scope) (spots text) p.reads stops in
     let parts : w.parts ≡ parts_of (property_of (columns_of scope) p.found) = p.grew.parts in
     record {
-      lawful = ap (is_formula (length (names scope.header)) scope.magnitude) parts ∙ read_formula text (names scope.header) scope.magnitude p.found w.brought w.spots read;
+      lawful = ap (λ (s : Scope). is_formula (length (names s.header)) s.magnitude w.parts) p.grew.scope ∙ ap (is_formula (length (names scope.header)) scope.magnitude) parts ∙ read_formula text (names scope.header) scope.magnitude p.found w.brought w.spots read;
       rest = p.grew.behind ∙ drop_replicate (length (parts_of (property_of (columns_of scope) p.found))) 128 blank ∙ ap (λ (ps : List Part). replicate (128 - length ps) blank) (sym parts);
     }

@@ -1,5 +1,5 @@
 -- What the reader of a text has at hand, and what a call leaves, told from what the grammar's reading answers. Assumes nothing.
-use Rattle.std.specs.Prelude.{◌≡◌, ℕ, ◌+◌, cond, List, [], ◌∷◌, ◌++◌, length, take, drop, replicate, Ok, Err, Result}
+use Rattle.std.specs.Prelude.{◌≡◌, ℕ, ◌+◌, false, cond, List, [], ◌∷◌, ◌++◌, length, take, drop, replicate, Ok, Err, OnOk, Result}
 use Rattle.parts.specs.declared.kinds.Part.{Part}
 use Rattle.tokens.specs.Lexing.{spots, spots_from}
 use Rattle.tokens.specs.Told.{spot_of}
@@ -12,6 +12,7 @@ use Rattle.criteria.specs.Formulas.{blank}
 use Rattle.criteria.specs.Refusals.{rule_number}
 use Rattle.criteria.specs.declared.fault.Breach.{Breach}
 use Rattle.criteria.specs.declared.reader.Reader.{Reader}
+use Rattle.criteria.specs.declared.scope.Scope.{Scope}
 
 -- the token at hand and those behind it
 abbrev pub ahead : Token → Lexer → List Spot
@@ -19,6 +20,8 @@ ahead token lexer = spot_of token ∷ cond (is_stop (spot_of token).tok) [] (spo
 
 -- the parts brought and the tokens left, as the grammar's reading has them, and the parts written, with the places behind them
 pub record View : Type 0 where
+  -- what the text is read for
+  pub scope : Scope
   pub brought : ℕ
   pub spots : List Spot
   pub parts : List Part
@@ -26,18 +29,23 @@ pub record View : Type 0 where
 
 abbrev pub view : Reader → View
 view r = record {
+  scope = r.scope.now;
   brought = r.brought;
   spots = ahead r.token r.lexer;
   parts = take r.count r.parts;
   behind = drop r.count r.parts;
 }
 
+-- The token at hand is not the end. A fact of a moment and no type: it holds until the next token is taken.
+abbrev pub AtToken : Reader → Type 0
+AtToken r = is_stop (reading.first (view r).spots).tok ≡ false
+
 -- so many parts brought, these tokens left, and these parts more
 abbrev pub grown : View → List Part → ℕ → List Spot → View
-grown v ps n s = record { brought = n; spots = s; parts = v.parts ++ ps; behind = drop (length ps) v.behind }
+grown v ps n s = record { scope = v.scope; brought = n; spots = s; parts = v.parts ++ ps; behind = drop (length ps) v.behind }
 
 abbrev pub moved : View → ℕ → List Spot → View
-moved v n s = record { brought = n; spots = s; parts = v.parts; behind = v.behind }
+moved v n s = record { scope = v.scope; brought = n; spots = s; parts = v.parts; behind = v.behind }
 
 -- What a call does: it reads as the grammar's reading does, answers a value, and writes parts, the first at an index.
 pub record Way (A B : Type 0) : Type 0 where
@@ -62,6 +70,11 @@ Follows way v r w = told r w ≡ image way v (way.read v.brought v.spots)
 abbrev pub Balanced : Reader → Reader → Type 0
 Balanced a b = b.count + a.brought ≡ b.brought + a.count
 
+-- A call did what its way says: it answered and left that, and wrote as many parts as it brought. Where the answer is told for every tree or context, the two stand as two clauses, since the balance depends on none.
+pub record Does {A B : Type 0} (way : Way A B) (a : Reader) (r : Result B Breach) (b : Reader) : Type 0 where
+  pub answer : Follows way (view a) r (view b)
+  pub balance : OnOk r (Balanced a b)
+
 -- a text of which nothing is read yet
-abbrev pub unread : List ℕ → View
-unread text = record { brought = 0; spots = spots text; parts = []; behind = replicate 128 blank }
+abbrev pub unread : Scope → List ℕ → View
+unread scope text = record { scope = scope; brought = 0; spots = spots text; parts = []; behind = replicate 128 blank }

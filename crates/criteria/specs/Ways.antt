@@ -1,5 +1,5 @@
 -- What each call of the reader does. Assumes nothing.
-use Rattle.std.specs.Prelude.{◌≡◌, ℕ, zero, suc, ◌+◌, ◌-◌, Bool, true, List, [], ◌∷◌, ◌++◌, length, is_some, None, nat_le}
+use Rattle.std.specs.Prelude.{◌≡◌, ℕ, zero, suc, ◌+◌, ◌-◌, Bool, true, false, List, [], ◌∷◌, ◌++◌, length, is_some, None, Option, nat_le}
 use Rattle.records.specs.Told.{names}
 use Rattle.parts.specs.Bounds.{bound_kept, bound_of, if_kept}
 use Rattle.parts.specs.Formulas as formula
@@ -10,6 +10,7 @@ use Rattle.parts.specs.declared.kinds.Connective.{Connective}
 use Rattle.parts.specs.declared.kinds.Part.{Part}
 use Rattle.parts.specs.declared.kinds.Part.TheVariants as part
 use Rattle.parts.specs.declared.kinds.Prefix.{Prefix}
+use Rattle.parts.specs.declared.kinds.Quantity.{Quantity}
 use Rattle.parts.specs.declared.kinds.Window.{Window}
 use Rattle.tokens.specs.declared.words.ConnectiveSign.{ConnectiveSign}
 use Rattle.tokens.specs.declared.words.PrefixSign.{PrefixSign}
@@ -24,6 +25,8 @@ use Rattle.grammar.specs.Trees.{Lead, Link, MeasureTree, PropertyTree}
 use Rattle.criteria.specs.Criteria.{columns_in}
 use Rattle.criteria.specs.States.{View, Way, grown}
 use Rattle.criteria.specs.declared.reader.operands.Call.{Call}
+use Rattle.criteria.specs.declared.reader.operands.Context.{Context}
+use Rattle.criteria.specs.declared.reader.operands.Context.TheVariants as context
 use Rattle.criteria.specs.declared.reader.operands.Function.{Function}
 use Rattle.criteria.specs.declared.reader.operands.Function.TheVariants as function
 use Rattle.criteria.specs.declared.reader.operands.Operand.{Operand}
@@ -52,11 +55,9 @@ opening_way left = silent (reading.opening left) (λ a. a)
 abbrev pub bring_way : Way Unit Unit
 bring_way = silent (reading.bring common_rules) (λ a. a)
 
-abbrev pub first_moment_way : Way ℕ ℕ
-first_moment_way = silent (λ n s. reading.first_moment common_rules (reading.window_numeral (reading.signed_numeral (reading.first s).tok)) n s) (λ a. a)
-
-abbrev pub last_moment_way : ℕ → Way ℕ ℕ
-last_moment_way a = silent (λ n s. reading.last_moment common_rules a (reading.window_numeral (reading.signed_numeral (reading.first s).tok)) n s) (λ b. b)
+-- a numeral of a window, no less than the one before it, or than 0
+abbrev pub moment_way : ℕ → Way ℕ ℕ
+moment_way a = silent (λ n s. reading.last_moment common_rules a (reading.window_numeral (reading.signed_numeral (reading.first s).tok)) n s) (λ b. b)
 
 abbrev pub window_of : (ℕ × ℕ) → Window
 window_of w = record { first = w.0; last = w.1 }
@@ -78,6 +79,11 @@ measuring columns largest read = record {
   value = λ at m. operand_at largest at (measure_of columns m);
   parts = λ at m. measure_parts at (measure_of columns m);
 }
+
+-- a measure stands inside a window measure, where no other stands
+abbrev pub is_inside : Context → Bool
+is_inside context.Formula = false
+is_inside context.Window = true
 
 abbrev pub numeral_way : Scope → Sign → ℕ → Way MeasureTree Operand
 numeral_way scope sign n = measuring (columns_of scope) scope.magnitude (reading.leaf (rules_of scope) (nat_le n most_numeral) 3 (tree.numeral sign n))
@@ -111,14 +117,19 @@ own_part at (formula.unary u m) = part.Unary u
 own_part at (formula.binary b m n) = part.Binary b (at + measure_size m - 1)
 own_part at (formula.over s w m) = part.Over s w
 
--- the part to be written behind the arguments, and the measure's bound, where it is kept
-abbrev pub called : ℕ → ℕ → Measure → Call
-called largest at m = record { part = own_part at m; bound = if_kept (bound_kept largest m) (bound_of largest m) }
+-- a measure's bound, where it is kept
+abbrev pub kept_bound : Scope → MeasureTree → Option ℕ
+kept_bound scope m = if_kept (bound_kept scope.magnitude (measure_of (columns_of scope) m)) (bound_of scope.magnitude (measure_of (columns_of scope) m))
 
+-- the part to be written behind the arguments, and that bound
+abbrev pub called : Scope → ℕ → MeasureTree → Call
+called scope at m = record { part = own_part at (measure_of (columns_of scope) m); bound = kept_bound scope m }
+
+-- so many nestings are left inside the brackets
 abbrev pub arguments_way : Scope → Function → ℕ → Bool → Way MeasureTree Call
 arguments_way scope f left inside = record {
-  read = arguments_of (rules_of scope) f left inside;
-  value = λ at m. called scope.magnitude at (measure_of (columns_of scope) m);
+  read = arguments_of (rules_of scope) f (suc left) inside;
+  value = called scope;
   parts = λ at m. argument_parts at (measure_of (columns_of scope) m);
 }
 
@@ -142,12 +153,12 @@ proposing columns read = record {
 
 -- what is written behind a left operand, whose part stands at an index
 abbrev pub behind_left : ℕ → ℕ → Property → List Part
-behind_left left_at at (formula.compare c d m n) = measure_parts at n ++ (part.Compare c d left_at ∷ [])
+behind_left left_at at (formula.compare c q m n) = measure_parts at n ++ (part.Compare c q left_at ∷ [])
 behind_left left_at at (formula.prefixed p f) = []
 behind_left left_at at (formula.joined c f g) = property_parts at g ++ (part.Connective c left_at ∷ [])
 
 abbrev pub right_size : Property → ℕ
-right_size (formula.compare c d m n) = measure_size n
+right_size (formula.compare c q m n) = measure_size n
 right_size (formula.prefixed p f) = 0
 right_size (formula.joined c f g) = property_size g
 
@@ -160,8 +171,8 @@ rightward columns left_at read = record {
 }
 
 -- a comparison from its comparator on
-abbrev pub compared_way : Scope → ℕ → Bool → MeasureTree → ℕ → Way PropertyTree ℕ
-compared_way scope left changes m left_at = rightward (columns_of scope) left_at (reading.compared (rules_of scope) left changes m)
+abbrev pub compared_way : Scope → ℕ → Quantity → MeasureTree → ℕ → Way PropertyTree ℕ
+compared_way scope left q m left_at = rightward (columns_of scope) left_at (reading.compared (rules_of scope) left q m)
 
 abbrev pub comparison_way : Scope → ℕ → Way PropertyTree ℕ
 comparison_way scope left = proposing (columns_of scope) (reading.comparison (rules_of scope) left)

@@ -23,6 +23,7 @@ pub enum Rule {
 }
 
 impl Rule {
+    // Its number, which the language lays down.
     pub fn number(self) -> u8
         ensures { result ≡ rule_number self }
     {
@@ -45,7 +46,7 @@ pub struct Breach {
 }
 
 // Why a criterion is refused. The fault of a lower layer is carried whole.
-#[derive(Clone, Copy)]
+#[derive(Clone, Copy, PartialEq, Eq, Debug)]
 pub enum CriterionFault {
     // A text that is empty or has more than 4,096 bytes, or a run file of more than 65,536.
     Length,
@@ -72,12 +73,13 @@ impl From<Breach> for CriterionFault {
     }
 }
 
-impl CriterionFault {
-    // Its number, and the index of a byte of the text, or of the run file where the header is at fault.
-    pub fn refusal(self) -> Refusal
-        ensures { result ≡ refusal_of self }
-    {
-        match self {
+// Its number, and the index of a byte of the text, or of the run file where the header is at fault.
+// Place 0: no byte is at fault.
+impl From<CriterionFault> for Refusal {
+    ghost from_gives = { λ f r. r ≡ refusal_of f };
+
+    fn from(fault: CriterionFault) -> Refusal {
+        match fault {
             CriterionFault::Length => Refusal {
                 number: 1,
                 place: 0,

@@ -13,6 +13,8 @@ pub const MOST_PARTS: usize = 128;
 // Every formula that exists is one tree in the order of its parts and keeps every limit, so that judging tests none of them.
 #[derive(Clone, Copy)]
 pub struct Formula {
+    // Fixed memory in the caller's place with a count: there is no heap.
+    // No one struct of both for the reader too: its parts become the formula's only once they are whole.
     parts: [Part; MOST_PARTS],
     count: usize,
     // The number of columns, and the largest magnitude of their values.

@@ -1,6 +1,8 @@
 // The reader of a text: its tokens from the one at hand on, and the parts so far.
 ghost use Rattle.std.specs.Prelude.{◌≡◌, ◌≤◌, length};
 
+use super::formula::MOST_PARTS;
+use super::scope::Scope;
 use parts::Part;
 use tokens::{Lexer, Token};
 
@@ -21,13 +23,13 @@ mod whole;
 
 pub use whole::read_text;
 
-// A criterion has at most so many parts.
-pub const MOST_PARTS: usize = 128;
-
 #[derive(Clone, Copy)]
 pub struct Reader<'t> {
+    // What the text is read for.
+    scope: &'t Scope<'t>,
     lexer: Lexer<'t>,
     token: Token<'t>,
+    // Fixed memory with a count, which becomes the formula's once the text is whole: there is no heap.
     parts: [Part; MOST_PARTS],
     // How many parts are written, and how many the tokens so far have brought.
     count: usize,

@@ -7,30 +7,25 @@ ghost use Rattle.criteria.specs.Told.{written};
 use super::fault::CriterionFault;
 use super::formula::Formula;
 use super::reader::read_text;
-use super::scope::Scope;
-use records::Fields;
+use super::scope::{LARGEST_MAGNITUDE, Scope};
+use records::{Fields, LARGEST_FILE};
 
-// The most bytes of a text and of a run file.
+// The most bytes of a text.
 const LONGEST_TEXT: usize = 4_096;
 
-const LARGEST_FILE: usize = 65_536;
-
-// The largest magnitude that a criterion is read for.
-const LARGEST_MAGNITUDE: i64 = 1_000_000_000;
-
+// The limit of run files is tested here, before the header's reading tests it.
 fn is_lawful_length(text: &[u8], file: &[u8]) -> bool
     ensures { result ≡ lawful_length text.now file.now }
 {
-    1 <= text.len() && text.len() <= LONGEST_TEXT && file.len() <= LARGEST_FILE
+    (1..=LONGEST_TEXT).contains(&text.len()) && file.len() <= LARGEST_FILE
 }
 
 fn lawful_magnitude(magnitude: i64) -> Option<u64>
     ensures { result ≡ lawful_magnitude magnitude }
 {
-    if magnitude < 1 || magnitude > LARGEST_MAGNITUDE {
-        return None;
-    }
-    Some(magnitude as u64)
+    u64::try_from(magnitude)
+        .ok()
+        .filter(|magnitude| (1..=LARGEST_MAGNITUDE).contains(magnitude))
 }
 
 // Reads a criterion for the header of a run file and a magnitude into the caller's place, or refuses it and changes nothing.
@@ -47,9 +42,7 @@ pub fn read(
     if !is_lawful_length(text, file) {
         return Err(CriterionFault::Length);
     }
-    let Some(largest) = lawful_magnitude(magnitude) else {
-        return Err(CriterionFault::Magnitude);
-    };
+    let largest = lawful_magnitude(magnitude).ok_or(CriterionFault::Magnitude)?;
     let mut fields = Fields::over(file);
     let header = fields.header()?;
     *place = read_text(

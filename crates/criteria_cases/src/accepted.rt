@@ -1,7 +1,7 @@
 // Texts that are accepted, and how they group.
 use super::expect::{all_accepted, formula_of};
 use criteria::Formula;
-use parts::{Connective, Part, Prefix};
+use parts::{Connective, Part, Prefix, Window};
 use std::process::Abort;
 use std::test::Fail;
 
@@ -28,47 +28,30 @@ fn number_of_parts(rt: HostRuntime) -> Result<(), Fail> {
 }
 
 // The part at an index is this connective over the left operand at another.
-fn joins(
-    rt: &impl Abort,
-    formula: &Formula,
-    i: usize,
-    connective: u8,
-    left: usize,
-) -> Result<(), Fail> {
-    match formula.part(i) {
-        Some(Part::Connective(c, l)) => {
-            let number = match c {
-                Connective::And => 1,
-                Connective::Or => 2,
-                Connective::Implies => 3,
-                Connective::Iff => 4,
-                Connective::Until(_) => 5,
-            };
-            assert_eq!(rt; number, connective, "part {i}: the connective");
-            assert_eq!(rt; l, left, "part {i}: the left operand");
-            Ok(())
-        }
-        _ => Err(Fail::new("no connective")),
-    }
+fn joins(rt: &impl Abort, formula: &Formula, i: usize, connective: Connective, left: usize) {
+    let part = Some(Part::Connective(connective, left));
+    assert_eq!(rt; formula.part(i), part, "part {i}");
 }
 
 // ∧ binds tighter than ∨, and both group to the left; a prefix binds tightest.
 #[test]
 fn grouping(rt: HostRuntime) -> Result<(), Fail> {
     let or_and = formula_of(b"0=0\xE2\x88\xA80=0\xE2\x88\xA70=0")?;
-    joins(&rt, &or_and, 9, 1, 5)?;
-    joins(&rt, &or_and, 10, 2, 2)?;
+    joins(&rt, &or_and, 9, Connective::And, 5);
+    joins(&rt, &or_and, 10, Connective::Or, 2);
     let implied = formula_of(b"0=0\xE2\x87\x920=0\xE2\x87\x920=0")?;
-    joins(&rt, &implied, 6, 3, 2)?;
-    joins(&rt, &implied, 10, 3, 6)?;
+    joins(&rt, &implied, 6, Connective::Implies, 2);
+    joins(&rt, &implied, 10, Connective::Implies, 6);
     let until = formula_of(b"F[0,1]0=0U[0,2]0=0\xE2\x87\x940=0")?;
-    joins(&rt, &until, 10, 4, 6)?;
-    joins(&rt, &until, 11, 5, 3)?;
-    match until.part(3) {
-        Some(Part::Prefix(Prefix::Eventually(window))) => {
-            assert_eq!(rt; window.last, 1);
-            Ok(())
-        },
-        _ => Err(Fail::new("no prefix")),
-    }
+    joins(&rt, &until, 10, Connective::Iff, 6);
+    joins(
+        &rt,
+        &until,
+        11,
+        Connective::Until(Window { first: 0, last: 2 }),
+        3,
+    );
+    let prefix = Prefix::Eventually(Window { first: 0, last: 1 });
+    assert_eq!(rt; until.part(3), Some(Part::Prefix(prefix)));
+    Ok(())
 }

@@ -1,5 +1,6 @@
 // Readings that a test expects to be accepted, or to be refused.
-use criteria::{CriterionFault, Formula, read};
+use criteria::{Formula, read};
+use records::Refusal;
 use std::process::Abort;
 use std::test::Fail;
 
@@ -8,29 +9,28 @@ pub const FILE: &[u8] = b"stay,level,a\r\n";
 
 pub const LARGEST: i64 = 1_000_000_000;
 
-// `case` says which of several like examples it is, where one fails.
-pub fn refused_as(rt: &impl Abort, case: usize, fault: CriterionFault, number: u8, place: usize) {
-    let refusal = fault.refusal();
-    assert_eq!(rt;
-        refusal.number,
-        number,
-        "case {case}: the number of the refusal"
-    );
-    assert_eq!(rt; refusal.place, place, "case {case}: its place");
-}
-
-// The text is refused so, and the formula is left as it was.
-pub fn refused(rt: &impl Abort, case: usize, text: &[u8], number: u8, place: usize) {
+// Reading these bytes for these is refused so. `case` says which of several like examples it is, where one fails.
+pub fn refused_for(
+    rt: &impl Abort,
+    case: usize,
+    text: &[u8],
+    file: &[u8],
+    magnitude: i64,
+    refusal: Refusal,
+) {
     let mut formula = Formula::new();
-    match read(text, FILE, LARGEST, &mut formula) {
-        Ok(()) => assert!(rt; false, "case {case}: the text is not refused"),
-        Err(fault) => refused_as(rt, case, fault, number, place),
-    }
+    let answer = read(text, file, magnitude, &mut formula).map_err(Refusal::from);
+    assert_eq!(rt; answer, Err(refusal), "case {case}");
     assert_eq!(rt;
         formula.count(),
         3,
         "case {case}: the parts of the formula before"
     );
+}
+
+// The text is refused so, and the formula is left as it was.
+pub fn refused(rt: &impl Abort, case: usize, text: &[u8], number: u8, place: usize) {
+    refused_for(rt, case, text, FILE, LARGEST, Refusal { number, place });
 }
 
 pub fn all_refused(rt: &impl Abort, number: u8, cases: &[(&[u8], usize)]) {
@@ -41,14 +41,9 @@ pub fn all_refused(rt: &impl Abort, number: u8, cases: &[(&[u8], usize)]) {
 
 pub fn formula_of(text: &[u8]) -> Result<Formula, Fail> {
     let mut formula = Formula::new();
-    match read(text, FILE, LARGEST, &mut formula) {
+    match read(text, FILE, LARGEST, &mut formula).map_err(Refusal::from) {
         Ok(()) => Ok(formula),
-        Err(fault) => {
-            let refusal = fault.refusal();
-            let number = refusal.number;
-            let place = refusal.place;
-            Err(Fail::new(format_args!("refused: {number} at {place}")))
-        }
+        Err(refusal) => Err(Fail::new(format_args!("refused: {refusal}"))),
     }
 }
 

@@ -1,6 +1,7 @@
 // Texts that are refused, by their number.
-use super::expect::{FILE, LARGEST, all_refused, refused_as};
+use super::expect::{FILE, LARGEST, all_refused, refused_for};
 use criteria::{Formula, read};
+use records::Refusal;
 
 // What begins no token, and a text that stops early, is 2.
 #[test]
@@ -97,7 +98,6 @@ fn beyond_a_bound(rt: HostRuntime) {
 // The lengths come first, then the magnitude, then the header.
 #[test]
 fn before_the_text(rt: HostRuntime) {
-    let mut formula = Formula::new();
     let cases: [(&[u8], &[u8], i64, u8, usize); 7] = [
         (b"", b"", 0, 1, 0),
         (b"0", b"", 0, 12, 0),
@@ -108,10 +108,8 @@ fn before_the_text(rt: HostRuntime) {
         (b"0", b"stay,a,a", LARGEST, 9, 7),
     ];
     for (i, (text, file, magnitude, number, place)) in cases.into_iter().enumerate() {
-        match read(text, file, magnitude, &mut formula) {
-            Ok(()) => assert!(rt; false, "case {i}: the text is not refused"),
-            Err(fault) => refused_as(&rt, i, fault, number, place),
-        }
+        refused_for(&rt, i, text, file, magnitude, Refusal { number, place });
     }
+    let mut formula = Formula::new();
     assert!(rt; read(b"0=0", FILE, 1, &mut formula).is_ok());
 }

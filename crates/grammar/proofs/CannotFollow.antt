@@ -18,9 +18,6 @@ same_before us vs s e =
     let k : length us ≡ length vs = omega (arith, ap length e, length-append us s, length-append vs s) in
     sym (take-append_seam us s) ∙ ap (λ (r : List Spot). take (length us) r) e ∙ ap (λ (i : ℕ). take i (vs ++ s)) k ∙ take-append_seam vs s
 
-apart : (p : PropertyTree) (n place : ℕ) (s t : List Spot) → got p n s ≡ fault 2 place t → ⊥
-apart p n place s t e = let z : ◌≡◌ {A = ℕ} 0 1 = cc in omega arith
-
 -- whatever begins with the refused token
 pub no_text : (rules : Rules) (s₀ s before : List Spot) (place : ℕ) → reading rules s₀ ≡ fault 2 place s → before ++ s ≡ s₀ → (ws : List Spot) → (first s).tok ≡ (first (ended ws 0)).tok → (p : PropertyTree) → PropertyText loosest (toks (before ++ ws)) p → ⊥
 no_text rules s₀ s before place e split ws same p t = by refl (subst (λ (o : Outcome PropertyTree). Follows (reading loose) s₀ o) e (reading_follows rules parts nesting (omega arith) (omega arith) s₀))
@@ -41,5 +38,5 @@ no_text rules s₀ s before place e split ws same p t = by refl (subst (λ (o : 
     by two (refuses_too us f h) =
         let is = same_before us before s (sym f ∙ sym split) in
         let there : reading loose (ended (before ++ ws) 0) ≡ fault 2 (first (ended ws 0)).at (ended ws 0) = ap (reading loose) (append_assoc before ws (ended [] 0) ∙ ap (λ (r : List Spot). r ++ ended ws 0) (sym is)) ∙ h (ended ws 0) same in
-        apart p read.0 (first (ended ws 0)).at (ended [] 0) (ended ws 0) (sym read.1 ∙ there)
+        let both : got p read.0 (ended [] 0) ≡ fault 2 (first (ended ws 0)).at (ended ws 0) = sym read.1 ∙ there in cc
     by two (breaks ne) = ne two

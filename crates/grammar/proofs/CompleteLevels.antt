@@ -1,5 +1,5 @@
 -- The readers of levels and of formulas read every formula that is spelled and breaks no rule.
-use Rattle.std.proofs.Common.{◌≡◌, ℕ, zero, suc, ◌+◌, ◌<◌, ◌≤◌, Bool, cond, List, ◌∷◌, ◌++◌, length, Some, None, Option, sym, refl, ap, ◌∙◌, subst, le_refl, zero-add, arith, eq-eqb, ne_eqb}
+use Rattle.std.proofs.Common.{◌≡◌, ℕ, zero, suc, ◌+◌, ◌<◌, ◌≤◌, List, ◌∷◌, ◌++◌, length, Some, None, Option, sym, ap, ◌∙◌, subst, le_refl, zero-add, arith, eq-eqb, ne_eqb}
 use Rattle.tokens.specs.Tokens.{Tok, Spot, connective}
 use Rattle.tokens.specs.declared.words.ConnectiveSign.{ConnectiveSign}
 use Rattle.grammar.specs.Faults.{broken_by}
@@ -16,10 +16,10 @@ use Rattle.grammar.proofs.WindowReaders.{Linked, linked_by, linked_steps, linked
 -- a connective ends what is bound more tightly
 ends_connective : (level : ℕ) (x : ConnectiveSign) → level < sign_level x → Ends level (connective x)
 ends_connective zero x h = tt
-ends_connective (suc level) x h = (ap (λ (b : Bool). cond b (Some x) None) (ne_eqb (sign_level x) (suc level) (λ e. omega arith)), ends_connective level x (omega arith))
+ends_connective (suc level) x h = grind (arith, ne_eqb, ends_connective level x (omega arith))
 
 sign_of_level : (level : ℕ) (x : ConnectiveSign) → sign_level x ≡ level → at_level level x ≡ Some x
-sign_of_level level x e = ap (λ (b : Bool). cond b (Some x) None) (eq-eqb (sign_level x) level e)
+sign_of_level level x e = grind (arith, eq-eqb)
 
 shorter : {rules : Rules} {n n' : ℕ} {s s' : List Spot} {xs : List Step} → Spelled rules n s xs n' s' → length s' ≤ length s
 shorter {s} none = le_refl (length s)
@@ -41,8 +41,7 @@ module _ (rules : Rules) where
   -- where no connective of this level follows, the links end
   pub links_end : (most level : ℕ) (inner : Reader PropertyTree) (p : PropertyTree) (n : ℕ) (s : List Spot) → sign_at level (first s).tok ≡ None → links most rules level inner p n s ≡ got p n s
   unfolding links
-  links_end zero level inner p n s e = refl
-  links_end (suc most) level inner p n s e = ap (λ (o : Option ConnectiveSign). elim o [ None ↦ got p n s | Some x ↦ and_then (linked rules inner p x n s) (links most rules level inner) ]) e
+  links_end most level inner p n s e = grind arith
 
   -- one link more: the sign at hand is of this level, and what follows it is read
   links_more : (most level : ℕ) (inner : Reader PropertyTree) (x : ConnectiveSign) (p q : PropertyTree) (n place : ℕ) (s : List Spot) {n' : ℕ} {s' : List Spot} → sign_level x ≡ level → Gives q n' s' (linked rules inner p x n (spot (connective x) place ∷ s)) → links (suc most) rules level inner p n (spot (connective x) place ∷ s) ≡ links most rules level inner q n' s'
@@ -87,4 +86,4 @@ module _ (rules : Rules) where
       gives_operand_at d (suc left) (operand rules left) (tier rules (operand rules left) loosest) deep (λ _. inner) (λ _. gives_tier (suc d) (operand rules left) inner loosest) t w
 
   pub gives_formula : GivesProperties rules 0 loosest (formula rules rules.nesting)
-  gives_formula = gives_tier 0 (operand rules rules.nesting) (gives_operand 0 rules.nesting (zero-add rules.nesting)) loosest
+  gives_formula = grind (arith, gives_tier, gives_operand, zero-add)

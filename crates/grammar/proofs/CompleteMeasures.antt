@@ -12,8 +12,8 @@ use Rattle.grammar.specs.Reading.{Reader, first, call, measure_at, measure, unar
 use Rattle.grammar.specs.Steps.{Rules, Step, unless, plain, nesting, ending, leaf, window_steps, call_steps, measure_steps}
 use Rattle.grammar.specs.Trees.{MeasureTree, numeral, variable, unary, binary, over}
 use Rattle.grammar.proofs.CompleteTokens.{Gives, it_does, if_true, made_gives, then_gives, by_first, gives_brought, gives_mark, gives_opening, gives_window}
-use Rattle.grammar.proofs.Keeping.{kept, opened, unless_none}
-use Rattle.grammar.proofs.Spelling.{Spelled, none, more}
+use Rattle.grammar.proofs.Keeping.{opened, unless_none}
+use Rattle.grammar.proofs.Spelling.{Spelled, more}
 use Rattle.grammar.proofs.TokenReaders.{none_left, deeper}
 
 -- a reader that reads each measure inside so many nestings
@@ -22,7 +22,7 @@ GivesMeasures rules d inside p = (ts : List Tok) (m : MeasureTree) (n n' : ℕ) 
 
 module _ {rules : Rules} where
   gives_ending : (m : MeasureTree) (place back : ℕ) {n n' : ℕ} {s s' : List Spot} → Spelled rules n s (ending rules m back ∷ []) n' s' → Gives m n' s' (reading.ending rules place m n s)
-  gives_ending m place back {n} (more e none) = if_true _ (unless_none (rules.bound m) 7 (kept rules n (ending rules m back) e).0) it_does
+  gives_ending m place back h = grind (arith, if_true, unless_none, it_does)
 
   -- a measure with arguments, which are read from behind its bracket
   gives_call : (d left : ℕ) (name : Tok) (m : MeasureTree) (xs : List Step) (p : Reader MeasureTree) {n n' : ℕ} {s s' : List Spot} → d + left ≡ rules.nesting → (ltb 0 left ≡ true → (n n' : ℕ) (s s' : List Spot) → Spelled rules n s xs n' s' → Gives m n' s' (p n s)) → Spelled rules n s (call_steps rules (suc d) name m xs) n' s' → Gives m n' s' (call rules left p n s)
@@ -33,8 +33,7 @@ module _ {rules : Rules} where
       gives_ending m place _ v)))
 
   gives_leaf : (t : Tok) (m : MeasureTree) (test : Bool) (number : ℕ) {n n' : ℕ} {s s' : List Spot} → Spelled rules n s (leaf t (unless test number) ∷ []) n' s' → Gives m n' s' (reading.leaf rules test number m n s)
-  gives_leaf t m true number {n} (more e none) = gives_brought rules n t _ e it_does
-  gives_leaf t m false number (more e none) = let z : ◌≡◌ {A = ℕ} 0 1 = cc in absurd (omega arith)
+  gives_leaf t m test number h = grind (arith, gives_brought, it_does)
 
   gives_unary : (d : ℕ) (inside : Bool) (p : Reader MeasureTree) → GivesMeasures rules d inside p → {ts : List Tok} (u : Unary) (m : MeasureTree) → MeasureText inside ts m → (n n' : ℕ) (s s' : List Spot) → Spelled rules n s (measure_steps rules d m) n' s' → Gives (unary u m) n' s' (unary_arguments p (unary u) n s)
   gives_unary d inside p g u m t n n' s s' w = made_gives _ (g _ m n n' s s' t w) it_does
@@ -59,5 +58,5 @@ module _ {rules : Rules} where
 
   pub gives_measure : (d left : ℕ) → d + left ≡ rules.nesting → (inside : Bool) → GivesMeasures rules d inside (measure rules left inside)
   unfolding measure
-  gives_measure d zero deep inside ts m n n' s s' t w = gives_measure_at d zero inside (λ _ n s. reading.refuse 2 s) deep (λ l. absurd (none_left l)) ts m n n' s s' t w
+  gives_measure d zero deep inside ts m n n' s s' t w = grind (arith, gives_measure_at, none_left)
   gives_measure d (suc left) deep inside ts m n n' s s' t w = gives_measure_at d (suc left) inside (measure rules left) deep (λ _ b. gives_measure (suc d) left (deeper d left deep) b) ts m n n' s s' t w

@@ -1,19 +1,21 @@
 -- The readers of comparisons and operands read every operand that is spelled and breaks no rule.
-use Rattle.std.proofs.Common.{◌≡◌, ℕ, zero, suc, pred, ◌+◌, Bool, true, false, ◌&&◌, ltb, List, [], ◌∷◌, ◌++◌, None, sym, refl, subst, ap₂, append_assoc}
+use Rattle.std.proofs.Common.{◌≡◌, ℕ, zero, suc, pred, ◌+◌, Bool, true, false, ltb, List, [], ◌∷◌, ◌++◌, None, sym, refl, subst, append_assoc, arith}
 use Rattle.parts.specs.declared.kinds.Comparator.{Comparator}
+use Rattle.parts.specs.declared.kinds.Quantity.{Quantity}
+use Rattle.parts.specs.declared.kinds.Quantity.TheVariants.{Value, Change}
 use Rattle.tokens.specs.Tokens.{Tok, Spot, mark, comparator, prefix, stop}
 use Rattle.tokens.specs.declared.words.PrefixSign.{PrefixSign}
 use Rattle.tokens.specs.declared.words.Punctuation.{Punctuation}
 use Rattle.tokens.specs.declared.words.Punctuation.TheVariants.{Open, Close, OpenWindow}
-use Rattle.grammar.specs.Layers.{MeasureText, a_numeral, a_variable, a_unary, a_binary, a_statistic, PropertyText, a_comparison, a_prefix, a_bracket, tighter, a_link, loosest}
+use Rattle.grammar.specs.Layers.{MeasureText, PropertyText, a_comparison, a_prefix, a_bracket, tighter, a_link, loosest}
 use Rattle.grammar.specs.Reading.{Outcome, Reader, first, is_mark, compared, comparison, change_comparison, prefix_sign, prefixed_by, bracketed_by, operand_at, sign_at}
 use Rattle.grammar.specs.Steps.{Rules, Step, plain, bringing, nesting, leading, left_steps, measure_steps, property_steps}
 use Rattle.grammar.specs.Trees.{MeasureTree, Lead, PropertyTree, compare, prefixed, bracketed}
 use Rattle.grammar.proofs.CompleteMeasures.{gives_measure}
 use Rattle.grammar.proofs.CompleteTokens.{Gives, it_does, if_true, made_gives, ahead_gives, then_gives, by_first, gives_brought, gives_mark, gives_opening, gives_lead}
-use Rattle.grammar.proofs.Keeping.{kept, left_for, opened}
+use Rattle.grammar.proofs.Keeping.{left_for, opened}
 use Rattle.grammar.proofs.PropertyReaders.{deeper_behind, prefixed_steps}
-use Rattle.grammar.proofs.Spelling.{Spelled, none, more, part, respelled}
+use Rattle.grammar.proofs.Spelling.{Spelled, more, part, respelled}
 use Rattle.grammar.proofs.WindowReaders.{Led, led_by, lead_rest}
 
 -- no connective of this level or a tighter one
@@ -33,41 +35,33 @@ abbrev pub GivesProperties : Rules → ℕ → ℕ → Reader PropertyTree → T
 GivesProperties rules d level r = (ts : List Tok) (p : PropertyTree) (n n' : ℕ) (s s' : List Spot) → PropertyText level ts p → Ends level (first s').tok → Spelled rules n s (property_steps rules d p) n' s' → Gives p n' s' (r n s)
 
 module _ {rules : Rules} where
-  gives_compared : (d left : ℕ) (changes : Bool) (c : Comparator) (l m : MeasureTree) {us : List Tok} {n n' : ℕ} {s s' : List Spot} → d + left ≡ rules.nesting → MeasureText false us m → Spelled rules n s (bringing (comparator c) ∷ measure_steps rules d m) n' s' → Gives (compare changes c l m) n' s' (compared rules left changes l n s)
-  gives_compared d left changes c l m {n} deep t (more e w) = gives_brought rules n (comparator c) _ e (made_gives _ (gives_measure d left deep false _ m _ _ _ _ t w) it_does)
+  gives_compared : (d left : ℕ) (q : Quantity) (c : Comparator) (l m : MeasureTree) {us : List Tok} {n n' : ℕ} {s s' : List Spot} → d + left ≡ rules.nesting → MeasureText false us m → Spelled rules n s (bringing (comparator c) ∷ measure_steps rules d m) n' s' → Gives (compare q c l m) n' s' (compared rules left q l n s)
+  gives_compared d left q c l m {n} deep t (more e w) = gives_brought rules n (comparator c) _ e (made_gives _ (gives_measure d left deep false _ m _ _ _ _ t w) it_does)
 
-  gives_comparison : (d left : ℕ) (c : Comparator) (l m : MeasureTree) {ts us : List Tok} {n n' : ℕ} {s s' : List Spot} → d + left ≡ rules.nesting → MeasureText false ts l → MeasureText false us m → Spelled rules n s (measure_steps rules d l ++ (bringing (comparator c) ∷ measure_steps rules d m)) n' s' → Gives (compare false c l m) n' s' (comparison rules left n s)
-  gives_comparison d left c l m {n} {s} deep t u w = then_gives _ (measure_steps rules d l) (λ k v. gives_measure d left deep false _ l n k s v t) w (λ _ _ w. gives_compared d left false c l m deep u w)
+  gives_comparison : (d left : ℕ) (c : Comparator) (l m : MeasureTree) {ts us : List Tok} {n n' : ℕ} {s s' : List Spot} → d + left ≡ rules.nesting → MeasureText false ts l → MeasureText false us m → Spelled rules n s (measure_steps rules d l ++ (bringing (comparator c) ∷ measure_steps rules d m)) n' s' → Gives (compare Value c l m) n' s' (comparison rules left n s)
+  gives_comparison d left c l m {n} {s} deep t u w = then_gives _ (measure_steps rules d l) (λ k v. gives_measure d left deep false _ l n k s v t) w (λ _ _ w. gives_compared d left Value c l m deep u w)
 
-  gives_change : (d left : ℕ) (c : Comparator) (l m : MeasureTree) {ts us : List Tok} {n n' : ℕ} {s s' : List Spot} → d + left ≡ rules.nesting → MeasureText false ts l → MeasureText false us m → Spelled rules n s (left_steps rules d true l ++ (bringing (comparator c) ∷ measure_steps rules d m)) n' s' → Gives (compare true c l m) n' s' (change_comparison rules left n s)
+  gives_change : (d left : ℕ) (c : Comparator) (l m : MeasureTree) {ts us : List Tok} {n n' : ℕ} {s s' : List Spot} → d + left ≡ rules.nesting → MeasureText false ts l → MeasureText false us m → Spelled rules n s (left_steps rules d Change l ++ (bringing (comparator c) ∷ measure_steps rules d m)) n' s' → Gives (compare Change c l m) n' s' (change_comparison rules left n s)
   gives_change d left c l m deep t u (more e w) =
       then_gives _ (_ ∷ []) (λ _ _. gives_opening d left deep) w (λ k v x.
       then_gives _ (measure_steps rules (suc d) l) (λ k' v'. gives_measure (suc d) (pred left) (deeper_behind d left deep (opened d left (nesting (suc d) (mark Open)) deep refl w)) false _ l k k' v v' t) (respelled (append_assoc (measure_steps rules (suc d) l) (plain (mark Close) ∷ []) (bringing (comparator c) ∷ measure_steps rules d m)) x) (λ _ _ x.
       then_gives _ (_ ∷ []) (λ _ _. gives_mark Close) x (λ _ _ x.
-      gives_compared d left true c l m deep u x)))
+      gives_compared d left Change c l m deep u x)))
 
   gives_prefix_sign : (d left : ℕ) (x : PrefixSign) {n n' : ℕ} {s s' : List Spot} → d + left ≡ rules.nesting → Spelled rules n s (leading (suc d) (prefix x) ∷ []) n' s' → Gives tt n' s' (prefix_sign rules left n s)
-  gives_prefix_sign d left x {n} deep (more e none) = if_true _ (ap₂ ◌&&◌ (left_for rules n d left (leading (suc d) (prefix x)) deep refl e) (kept rules n (leading (suc d) (prefix x)) e).1) it_does
+  gives_prefix_sign d left x deep h = grind (arith, if_true, left_for, it_does)
 
   -- what begins a measure begins a comparison
   by_comparison : (d left : ℕ) (inner whole : Reader PropertyTree) {inside : Bool} {ts : List Tok} {m : MeasureTree} {n n' : ℕ} {s s' : List Spot} → MeasureText inside ts m → Spelled rules n s (measure_steps rules d m) n' s' → operand_at rules left inner whole (first s).tok n s ≡ comparison rules left n s
-  by_comparison d left inner whole a_numeral (more e w) = refl
-  by_comparison d left inner whole a_variable (more e w) = refl
-  by_comparison d left inner whole (a_unary t) (more e w) = refl
-  by_comparison d left inner whole (a_binary t u) (more e w) = refl
-  by_comparison d left inner whole (a_statistic t) (more e w) = refl
+  by_comparison d left inner whole h k = grind arith
 
   measure_begins : (d : ℕ) {inside : Bool} {ts : List Tok} {m : MeasureTree} {n n' : ℕ} {s s' : List Spot} → MeasureText inside ts m → Spelled rules n s (measure_steps rules d m) n' s' → is_mark OpenWindow (first s).tok ≡ false
-  measure_begins d a_numeral (more e w) = refl
-  measure_begins d a_variable (more e w) = refl
-  measure_begins d (a_unary t) (more e w) = refl
-  measure_begins d (a_binary t u) (more e w) = refl
-  measure_begins d (a_statistic t) (more e w) = refl
+  measure_begins d h k = grind arith
 
   -- no formula begins as an index of X does
   property_begins : (d : ℕ) {level : ℕ} {ts : List Tok} {p : PropertyTree} {n n' : ℕ} {s s' : List Spot} → PropertyText level ts p → Spelled rules n s (property_steps rules d p) n' s' → is_mark OpenWindow (first s).tok ≡ false
-  property_begins d (a_comparison {d = false} {m} t u) w = measure_begins d t (part (measure_steps rules d m) w).2
-  property_begins d (a_comparison {d = true} t u) (more e w) = refl
+  property_begins d (a_comparison {q = Value} {m} t u) w = measure_begins d t (part (measure_steps rules d m) w).2
+  property_begins d (a_comparison {q = Change} t u) (more e w) = refl
   property_begins d (a_prefix {l} {p} h t) w = by (respelled (prefixed_steps rules d p (led_by l h).1) w)
     where
       by : {x : PrefixSign} {n n' : ℕ} {s s' : List Spot} {ys : List Step} → Spelled rules n s (leading (suc d) (prefix x) ∷ ys) n' s' → is_mark OpenWindow (first s).tok ≡ false
@@ -92,8 +86,8 @@ module _ {rules : Rules} where
       closed (more e w) = ends_mark loosest Close
 
   pub gives_operand_at : (d left : ℕ) (inner whole : Reader PropertyTree) → d + left ≡ rules.nesting → (ltb 0 left ≡ true → GivesProperties rules (suc d) 0 inner) → (ltb 0 left ≡ true → GivesProperties rules (suc d) loosest whole) → {ts : List Tok} {p : PropertyTree} {n n' : ℕ} {s s' : List Spot} → PropertyText 0 ts p → Spelled rules n s (property_steps rules d p) n' s' → Gives p n' s' (operand_at rules left inner whole (first s).tok n s)
-  gives_operand_at d left inner whole deep g h {n} {n'} {s} {s'} (a_comparison {d = false} {c} {m = l} {n = m} t u) w = subst (λ (o : Outcome PropertyTree). Gives (compare false c l m) n' s' o) (sym (by_comparison d left inner whole t (part (measure_steps rules d l) w).2)) (gives_comparison d left c l m deep t u w)
-  gives_operand_at d left inner whole deep g h (a_comparison {d = true} {c} {m = l} {n = m} t u) w = by_first (operand_at rules left inner whole) w (gives_change d left c l m deep t u w)
+  gives_operand_at d left inner whole deep g h {n} {n'} {s} {s'} (a_comparison {q = Value} {c} {m = l} {n = m} t u) w = subst (λ (o : Outcome PropertyTree). Gives (compare Value c l m) n' s' o) (sym (by_comparison d left inner whole t (part (measure_steps rules d l) w).2)) (gives_comparison d left c l m deep t u w)
+  gives_operand_at d left inner whole deep g h (a_comparison {q = Change} {c} {m = l} {n = m} t u) w = by_first (operand_at rules left inner whole) w (gives_change d left c l m deep t u w)
   gives_operand_at d left inner whole deep g h (a_prefix {l} {p} k t) w =
       let x = led_by l k in
       let v = respelled (prefixed_steps rules d p x.1) w in

@@ -1,18 +1,18 @@
 -- The readers of one token, of windows, and of prefixes and connectives behind their signs read whatever is spelled and breaks no rule.
-use Rattle.std.proofs.Common.{◌≡◌, ℕ, suc, ◌+◌, Bool, true, false, cond, List, [], ◌∷◌, ◌++◌, None, sym, refl, subst}
+use Rattle.std.proofs.Common.{◌≡◌, ℕ, suc, ◌+◌, Bool, true, false, cond, List, [], ◌∷◌, ◌++◌, None, refl, arith}
 use Rattle.tokens.specs.Tokens.{Tok, Spot, mark, numeral}
 use Rattle.tokens.specs.declared.words.ConnectiveSign.{ConnectiveSign}
 use Rattle.tokens.specs.declared.words.PrefixSign.{PrefixSign}
 use Rattle.tokens.specs.declared.words.Punctuation.{Punctuation}
-use Rattle.tokens.specs.declared.words.Punctuation.TheVariants.{Open, Close, OpenWindow, CloseWindow, Comma}
+use Rattle.tokens.specs.declared.words.Punctuation.TheVariants.{Open, OpenWindow, CloseWindow, Comma}
 use Rattle.tokens.specs.declared.words.Sign.{Sign}
-use Rattle.tokens.specs.declared.words.Sign.TheVariants.{Unsigned, Plus, Minus}
+use Rattle.tokens.specs.declared.words.Sign.TheVariants.{Unsigned}
 use Rattle.grammar.specs.Faults.{broken_by}
 use Rattle.grammar.specs.Layers.{LeadText}
-use Rattle.grammar.specs.Reading.{Outcome, got, Reader, and_then, first, refuse, is_mark, bring, punctuation, opening, signed_numeral, window_numeral, index_numeral, first_moment, last_moment, index_by, window, lead, link}
+use Rattle.grammar.specs.Reading.{Outcome, got, Reader, and_then, first, is_mark, bring, punctuation, opening, signed_numeral, window_numeral, index_numeral, first_moment, last_moment, index_by, window, lead, link}
 use Rattle.grammar.specs.Steps.{Rules, Step, unless, or_else, plain, bringing, nesting, limited, window_steps}
 use Rattle.grammar.specs.Trees.{Lead, skipping, Link}
-use Rattle.grammar.proofs.Keeping.{kept, left_for, none_or, unless_none}
+use Rattle.grammar.proofs.Keeping.{left_for, none_or, unless_none}
 use Rattle.grammar.proofs.Spelling.{Spelled, none, more, part}
 use Rattle.grammar.proofs.WindowReaders.{Led, led_not, led_next, led_skipping, led_eventually, led_always, lead_rest, Linked, linked_and, linked_or, linked_implies, linked_iff, linked_until, link_rest}
 
@@ -28,21 +28,17 @@ pub made_gives : {A B : Type 0} {a : A} {b : B} {n n' : ℕ} {s s' : List Spot} 
 made_gives f it_does g = g
 
 pub if_true : {A : Type 0} {a : A} {n : ℕ} {s : List Spot} {b : Bool} {o : Outcome A} (other : Outcome A) → b ≡ true → Gives a n s o → Gives a n s (cond b o other)
-if_true {a} {n} {s} {o} other e g = subst (λ (c : Bool). Gives a n s (cond c o other)) (sym e) g
+if_true {a} {n} {s} {o} other e g = grind arith
 
 if_false : {A : Type 0} {a : A} {n : ℕ} {s : List Spot} {b : Bool} {o : Outcome A} (other : Outcome A) → b ≡ false → Gives a n s o → Gives a n s (cond b other o)
-if_false {a} {n} {s} {o} other e g = subst (λ (c : Bool). Gives a n s (cond c other o)) (sym e) g
+if_false {a} {n} {s} {o} other e g = grind arith
 
 own_mark : (p : Punctuation) → is_mark p (mark p) ≡ true
-own_mark Open = refl
-own_mark Close = refl
-own_mark OpenWindow = refl
-own_mark CloseWindow = refl
-own_mark Comma = refl
+own_mark p = grind arith
 
 -- the sign of a part that is brought
 pub gives_brought : (rules : Rules) (n : ℕ) (t : Tok) {B : Type 0} {b : B} {n' : ℕ} {s s' : List Spot} (f : Unit → Reader B) → broken_by rules n (bringing t) ≡ None → Gives b n' s' (f tt (suc n) s) → Gives b n' s' (and_then (bring rules n s) f)
-gives_brought rules n t {b} {n'} {s} {s'} f e g = subst (λ (c : Bool). Gives b n' s' (and_then (cond c (got tt (suc n) s) (refuse 6 s)) f)) (sym (kept rules n (bringing t) e).1) g
+gives_brought rules n t f e g = grind arith
 
 module _ {rules : Rules} where
   -- what begins with xs is read by one reader after another, the first of which may look at what follows
@@ -64,20 +60,16 @@ module _ {rules : Rules} where
   gives_mark p (more e none) = if_true _ (own_mark p) it_does
 
   pub gives_opening : (d left : ℕ) {n n' : ℕ} {s s' : List Spot} → d + left ≡ rules.nesting → Spelled rules n s (nesting (suc d) (mark Open) ∷ []) n' s' → Gives tt n' s' (opening left n s)
-  gives_opening d left {n} deep (more e none) = if_true _ (left_for rules n d left (nesting (suc d) (mark Open)) deep refl e) it_does
+  gives_opening d left deep h = grind (arith, if_true, left_for, it_does)
 
   gives_first_moment : (a : ℕ) {n n' : ℕ} {s s' : List Spot} → Spelled rules n s (limited (numeral Unsigned a) (unless (rules.numeral a) 3) ∷ []) n' s' → Gives a n' s' (first_moment rules (window_numeral (signed_numeral (first s).tok)) n s)
-  gives_first_moment a {n} (more {x} e none) = if_true _ (unless_none (rules.numeral a) 3 (kept rules n x e).0) it_does
+  gives_first_moment a {n} (more {x} e none) = grind (arith, if_true, unless_none, it_does)
 
   gives_last_moment : (a b : ℕ) {n n' : ℕ} {s s' : List Spot} → Spelled rules n s (limited (numeral Unsigned b) (or_else (unless (rules.numeral b) 3) (unless (rules.order a b) 4)) ∷ []) n' s' → Gives b n' s' (last_moment rules a (window_numeral (signed_numeral (first s).tok)) n s)
-  gives_last_moment a b {n} (more {x} e none) =
-      let h = none_or (unless (rules.numeral b) 3) (unless (rules.order a b) 4) (kept rules n x e).0 in
-      if_true _ (unless_none (rules.numeral b) 3 h.0) (if_true _ (unless_none (rules.order a b) 4 h.1) it_does)
+  gives_last_moment a b h = grind (arith, none_or, if_true, unless_none, it_does)
 
   gives_index : (sign : Sign) (k : ℕ) {n n' : ℕ} {s s' : List Spot} → LeadText (skipping sign k) → Spelled rules n s (limited (numeral sign k) (unless (rules.index k) 3) ∷ []) n' s' → Gives (sign, k) n' s' (index_by rules (index_numeral (signed_numeral (first s).tok)) n s)
-  gives_index Unsigned k {n} h (more {x} e none) = if_true _ (unless_none (rules.index k) 3 (kept rules n x e).0) it_does
-  gives_index Plus k {n} h (more {x} e none) = if_true _ (unless_none (rules.index k) 3 (kept rules n x e).0) it_does
-  gives_index Minus k h w = absurd h
+  gives_index sign k h e = grind (arith, if_true, unless_none, it_does)
 
   pub gives_window : (a b : ℕ) {n n' : ℕ} {s s' : List Spot} → Spelled rules n s (window_steps rules a b) n' s' → Gives (a, b) n' s' (window rules n s)
   gives_window a b w =

@@ -24,9 +24,6 @@ unfolding spots
 spots_tokens [] = refl
 spots_tokens (t ∷ ts) = ap {B = List Tok} (λ r. t ∷ r) (spots_tokens ts)
 
-same_tree : (p q : PropertyTree) (n m : ℕ) (s : List Spot) → got p n s ≡ got q m s → p ≡ q
-same_tree p q n m s e = cc
-
 -- a text is read as one tree only, so it has no other
 one_tree : (ts : List Spot) (p q : PropertyTree) → PropertyText loosest (toks ts) p → PropertyText loosest (toks ts) q → p ≡ q
 one_tree ts p q t u =
@@ -34,7 +31,7 @@ one_tree ts p q t u =
     let parts = length (toks ts) in
     let f = complete_reading (lax parts nesting) ts 0 p (reads_lax parts nesting (toks ts) p (omega arith) (omega arith) t) in
     let g = complete_reading (lax parts nesting) ts 0 q (reads_lax parts nesting (toks ts) q (omega arith) (omega arith) u) in
-    same_tree p q f.0 g.0 (ended [] 0) (sym f.1 ∙ g.1)
+    let both : got p f.0 (ended [] 0) ≡ got q g.0 (ended [] 0) = sym f.1 ∙ g.1 in cc
 
 cannot_follow : (rules : Rules) (s₀ s : List Spot) (place : ℕ) → reading rules s₀ ≡ fault 2 place s → (before : List Spot) × (before ++ s ≡ s₀) × (place ≡ (first s).at) × CannotFollow rules (toks before) (first s).tok
 unfolding spots

@@ -1,5 +1,5 @@
 -- One reader follows another: where the other reads, it reads the same, and where the other says that a token cannot follow, it says so too; and it looks no further than that token. One reader after another follows if each does.
-use Rattle.std.proofs.Common.{◌≡◌, ℕ, Bool, true, false, cond, List, [], ◌∷◌, ◌++◌, sym, refl, ap, ◌∙◌, append_assoc}
+use Rattle.std.proofs.Common.{◌≡◌, ℕ, Bool, true, cond, List, [], ◌∷◌, ◌++◌, sym, refl, ap, ◌∙◌, append_assoc, arith}
 use Rattle.tokens.specs.Tokens.{Tok, Spot}
 use Rattle.grammar.specs.Reading.{Outcome, got, fault, Reader, and_then, first, rest, refuse}
 
@@ -18,9 +18,7 @@ same_first [] t t' e = e
 same_first (u ∷ us) t t' e = refl
 
 pub follows_as : {A : Type 0} {q r : List Spot → Outcome A} {s : List Spot} {o : Outcome A} → ((t : List Spot) → r t ≡ q t) → Follows q s o → Follows r s o
-follows_as e (reads_too us f h) = reads_too us f (λ t' k. e (us ++ t') ∙ h t' k)
-follows_as e (refuses_too us f h) = refuses_too us f (λ t' k. e (us ++ t') ∙ h t' k)
-follows_as e (breaks ne) = breaks ne
+follows_as e h = grind arith
 
 -- the second reader follows from wherever the first one reads to
 pub read_follows : {A B : Type 0} {q : List Spot → Outcome A} {s : List Spot} {o : Outcome A} {f g : A → Reader B} → Follows q s o → ((a : A) (n : ℕ) (t : List Spot) → o ≡ got a n t → Follows (g a n) t (f a n t)) → Follows (λ s. and_then (q s) g) s (and_then o f)
@@ -44,9 +42,7 @@ then_follows h k = read_follows h (λ a n t _. k a n t)
 
 -- a reader that goes by the token at hand
 pub by_token_follows : {A : Type 0} (q : Tok → List Spot → Outcome A) {s : List Spot} {o : Outcome A} → Follows (q (first s).tok) s o → Follows (λ t. q (first t).tok t) s o
-by_token_follows q (reads_too {t} us e h) = reads_too us e (λ t' same. ap (λ (k : Tok). q k (us ++ t')) (sym (ap (λ (r : List Spot). (first r).tok) e ∙ same_first us t t' same)) ∙ h t' same)
-by_token_follows q (refuses_too {t} us e h) = refuses_too us e (λ t' same. ap (λ (k : Tok). q k (us ++ t')) (sym (ap (λ (r : List Spot). (first r).tok) e ∙ same_first us t t' same)) ∙ h t' same)
-by_token_follows q (breaks ne) = breaks ne
+by_token_follows q h = grind (arith, reads_too, same_first, refuses_too, breaks)
 
 -- a reader from behind the token at hand
 pub behind_follows : {A : Type 0} {q : List Spot → Outcome A} {x : Spot} {s : List Spot} {o : Outcome A} → Follows q s o → Follows (λ t. q (rest t)) (x ∷ s) o
@@ -68,13 +64,11 @@ module _ {A : Type 0} where
 
   -- a test of the token at hand, which both make
   pub cond_follows : (b : Bool) {q r : List Spot → Outcome A} {s : List Spot} {o o' : Outcome A} → Follows q s o → Follows r s o' → Follows (λ t. cond b (q t) (r t)) s (cond b o o')
-  cond_follows true f g = f
-  cond_follows false f g = g
+  cond_follows b f g = grind arith
 
   -- a test of a rule, which the reader that follows passes
   pub rule_follows : (b : Bool) (number place : ℕ) (t : List Spot) {q : List Spot → Outcome A} {s : List Spot} {o : Outcome A} → (number ≡ 2 → ⊥) → (b ≡ true → Follows q s o) → Follows q s (cond b o (fault number place t))
-  rule_follows true number place t ne f = f refl
-  rule_follows false number place t ne f = breaks ne
+  rule_follows b number place t ne f = grind (arith, breaks)
 
   pub passing_follows : {b : Bool} {q : List Spot → Outcome A} (r : List Spot → Outcome A) {s : List Spot} {o : Outcome A} → b ≡ true → Follows q s o → Follows (λ t. cond b (q t) (r t)) s o
-  passing_follows {q} r e f = follows_as (λ t. ap (λ (c : Bool). cond c (q t) (r t)) e) f
+  passing_follows {q} r e f = grind (arith, follows_as)

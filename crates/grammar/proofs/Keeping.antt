@@ -1,8 +1,8 @@
 -- Which rule a step breaks, by the tests that a reader makes: of a token that brings nothing its own rule, else also whether there is room for its part and its nesting.
-use Rattle.std.proofs.Common.{◌≡◌, ℕ, zero, suc, ◌+◌, Bool, true, false, ◌&&◌, ltb, leb, List, ◌∷◌, Some, None, Option, sym, refl, ap, ◌∙◌, ap₂, suc-add, zero-add}
-use lib.Dec.{leb-zero, leb-suc-suc}
+use Rattle.std.proofs.Common.{◌≡◌, ℕ, suc, ◌+◌, Bool, true, ltb, leb, List, ◌∷◌, None, Option, arith}
+use lib.Dec.{leb-zero}
 use Rattle.tokens.specs.Tokens.{Tok, Spot}
-use Rattle.grammar.specs.Faults.{brought_by, broken_by, fits}
+use Rattle.grammar.specs.Faults.{brought_by, broken_by}
 use Rattle.grammar.specs.Steps.{Rules, Step, unless, or_else, plain, bringing, nesting, limited}
 use Rattle.grammar.proofs.Spelling.{Spelled, none, more}
 
@@ -14,35 +14,23 @@ Room rules n = leb n rules.parts ≡ true
 abbrev pub Within : Rules → ℕ → Type 0
 Within rules d = leb d rules.nesting ≡ true
 
-and_true : (b : Bool) → (b && true) ≡ b
-and_true true = refl
-and_true false = refl
-
-pub both_true : (a b : Bool) → (a && b) ≡ true → (a ≡ true) × (b ≡ true)
-both_true true b e = (refl, e)
-both_true false b e = (e, cc)
-
 or_none : (o : Option ℕ) → or_else o None ≡ o
-or_none None = refl
-or_none (Some n) = refl
+or_none o = grind arith
 
 pub none_or : (o p : Option ℕ) → or_else o p ≡ None → (o ≡ None) × (p ≡ None)
-none_or None p e = (refl, e)
-none_or (Some n) p e = (cc, cc)
+none_or o p e = grind arith
 
 pub unless_none : (b : Bool) (number : ℕ) → unless b number ≡ None → b ≡ true
-unless_none true number e = refl
-unless_none false number e = cc
+unless_none b number e = grind arith
 
 -- how deeply a bracket is nested, where so many nestings are left
 pub leb_left : (d left : ℕ) → leb (suc d) (d + left) ≡ ltb 0 left
-leb_left zero left = ap (λ (k : ℕ). leb 1 k) (zero-add left)
-leb_left (suc d) left = ap (λ (k : ℕ). leb (suc (suc d)) k) (suc-add d left) ∙ leb-suc-suc (suc d) (d + left) ∙ leb_left d left
+leb_left d left = grind arith
 
 module _ (rules : Rules) where
   -- a step that brings no more than there is room for is judged by its own rule
   pub judged : (n : ℕ) (x : Step) → Room rules (brought_by n x) → Within rules x.depth → broken_by rules n x ≡ x.breaks
-  judged n x r w = ap₂ (λ (a b : Bool). or_else x.breaks (unless (a && b) 6)) r w ∙ or_none x.breaks
+  judged n x r w = grind (arith, or_none)
 
   pub flat : Within rules 0
   flat = leb-zero rules.nesting
@@ -54,21 +42,18 @@ module _ (rules : Rules) where
   limited_judged n t o r = judged n (limited t o) r flat
 
   pub bringing_judged : (n : ℕ) (t : Tok) → broken_by rules n (bringing t) ≡ unless (leb (suc n) rules.parts) 6
-  bringing_judged n t = ap (λ (b : Bool). unless (leb (suc n) rules.parts && b) 6) flat ∙ ap (λ (b : Bool). unless b 6) (and_true (leb (suc n) rules.parts))
+  bringing_judged n t = grind arith
 
   pub nesting_judged : (n d : ℕ) (t : Tok) → Room rules n → broken_by rules n (nesting d t) ≡ unless (leb d rules.nesting) 6
-  nesting_judged n d t r = ap (λ (b : Bool). unless (b && leb d rules.nesting) 6) r
+  nesting_judged n d t r = grind arith
 
   -- what a step that breaks no rule keeps
   pub kept : (n : ℕ) (x : Step) → broken_by rules n x ≡ None → (x.breaks ≡ None) × Room rules (brought_by n x) × Within rules x.depth
-  kept n x e =
-      let h = none_or x.breaks (unless (fits rules n x) 6) e in
-      let b = both_true (leb (brought_by n x) rules.parts) (leb x.depth rules.nesting) (unless_none (fits rules n x) 6 h.1) in
-      (h.0, b.0, b.1)
+  kept n x e = grind arith
 
 -- a step that keeps the rules has its nesting, and so there was some left
 pub left_for : (rules : Rules) (n d left : ℕ) (x : Step) → d + left ≡ rules.nesting → x.depth ≡ suc d → broken_by rules n x ≡ None → ltb 0 left ≡ true
-left_for rules n d left x deep is e = sym (leb_left d left) ∙ ap (λ (k : ℕ). leb (suc d) k) deep ∙ ap (λ (k : ℕ). leb k rules.nesting) (sym is) ∙ (kept rules n x e).2
+left_for rules n d left x deep is e = grind arith
 
 pub opened : {rules : Rules} {n n' : ℕ} {s s' : List Spot} {xs : List Step} (d left : ℕ) (x : Step) → d + left ≡ rules.nesting → x.depth ≡ suc d → Spelled rules n s (x ∷ xs) n' s' → ltb 0 left ≡ true
 opened {rules} {n} d left x deep is (more e w) = left_for rules n d left x deep is e

@@ -3,7 +3,7 @@ use Rattle.std.proofs.Common.{◌≡◌, ℕ, zero, suc, ◌+◌, ◌≤◌, Boo
 use Rattle.tokens.specs.Tokens.{Tok, Spot, is_stop}
 use Rattle.tokens.specs.declared.words.ConnectiveSign.{ConnectiveSign}
 use Rattle.grammar.specs.Layers.{loosest}
-use Rattle.grammar.specs.Reading.{Outcome, got, fault, Reader, and_then, first, rest, refuse, operand_at, sign_at, link, linked, links, tier, operand, reading}
+use Rattle.grammar.specs.Reading.{Outcome, got, fault, Reader, and_then, first, refuse, operand_at, sign_at, link, linked, links, tier, operand, reading}
 use Rattle.grammar.specs.Steps.{Rules}
 use Rattle.grammar.specs.Trees.{PropertyTree, joined}
 use Rattle.grammar.proofs.CompleteLevels.{links_end}
@@ -18,18 +18,15 @@ linked_behind rules inner p y n s = and_then (link rules y n s) (λ l n s. and_t
 module _ (rules : Rules) where
   linked_is_behind : (inner : Reader PropertyTree) (p : PropertyTree) (y : ConnectiveSign) (n : ℕ) (x : Spot) (s : List Spot) → leb (suc n) rules.parts ≡ true → linked rules inner p y n (x ∷ s) ≡ linked_behind rules inner p y (suc n) s
   unfolding linked_behind
-  linked_is_behind inner p y n x s e = ap (λ (b : Bool). and_then (cond b (got tt (suc n) (x ∷ s)) (refuse 6 (x ∷ s))) (λ _ n s. and_then (link rules y n (rest s)) (λ l n s. and_then (inner n s) (λ q n s. got (joined l p q) n s)))) e
+  linked_is_behind inner p y n x s e = grind arith
 
   linked_full : (inner : Reader PropertyTree) (p : PropertyTree) (y : ConnectiveSign) (n : ℕ) (x : Spot) (s : List Spot) → leb (suc n) rules.parts ≡ false → linked rules inner p y n (x ∷ s) ≡ fault 6 x.at (x ∷ s)
-  linked_full inner p y n x s e = ap (λ (b : Bool). and_then (cond b (got tt (suc n) (x ∷ s)) (refuse 6 (x ∷ s))) (λ _ n s. and_then (link rules y n (rest s)) (λ l n s. and_then (inner n s) (λ q n s. got (joined l p q) n s)))) e
+  linked_full inner p y n x s e = grind arith
 
   -- one link more, where there may be as many as tokens and k
   link_step : (k level : ℕ) (inner : Reader PropertyTree) (p : PropertyTree) (y : ConnectiveSign) (n : ℕ) (x : Spot) (s : List Spot) → leb (suc n) rules.parts ≡ true → sign_at level x.tok ≡ Some y → links (k + length (x ∷ s)) rules level inner p n (x ∷ s) ≡ and_then (linked_behind rules inner p y (suc n) s) (links (k + length s) rules level inner)
   unfolding links
-  link_step k level inner p y n x s r e =
-      ap (λ (m : ℕ). links m rules level inner p n (x ∷ s)) (add-suc k (length s))
-      ∙ ap (λ (o : Option ConnectiveSign). elim o [ None ↦ got p n (x ∷ s) | Some z ↦ and_then (linked rules inner p z n (x ∷ s)) (links (k + length s) rules level inner) ]) e
-      ∙ ap (λ (o : Outcome PropertyTree). and_then o (links (k + length s) rules level inner)) (linked_is_behind inner p y n x s r)
+  link_step k level inner p y n x s r e = grind (arith, add-suc, linked_is_behind)
 
 module _ (rules : Rules) (parts nesting : ℕ) (roomy : rules.parts ≤ parts) where
   linked_follows : (inner inner' : Reader PropertyTree) → FollowsReader inner' inner → (p : PropertyTree) (y : ConnectiveSign) → FollowsReader (linked_behind (lax parts nesting) inner' p y) (linked_behind rules inner p y)

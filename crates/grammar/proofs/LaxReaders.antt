@@ -1,6 +1,9 @@
 -- The readers with lax rules, which only limit parts and nesting, and no less than the rules at hand, follow those with the rules at hand.
 use Rattle.std.proofs.Common.{◌≡◌, ℕ, zero, suc, pred, ◌≤◌, Bool, true, false, cond, ◌&&◌, ltb, leb, List, [], ◌∷◌, Some, None, Option, refl, ap, ap₂, arith, ltb-true, lt-ltb, le-leb, leb-true}
+use Rattle.std.proofs.lemmas.Bool.{and_parts}
 use Rattle.parts.specs.declared.kinds.Comparator.{Comparator}
+use Rattle.parts.specs.declared.kinds.Quantity.{Quantity}
+use Rattle.parts.specs.declared.kinds.Quantity.TheVariants.{Value, Change}
 use Rattle.tokens.specs.Tokens.{Tok, Spot, mark, change, comparator, unary, binary, statistic, prefix, connective, numeral, variable, stray, stop}
 use Rattle.tokens.specs.declared.words.ConnectiveSign.{ConnectiveSign}
 use Rattle.tokens.specs.declared.words.ConnectiveSign.TheVariants as connectives
@@ -14,7 +17,6 @@ use Rattle.grammar.specs.Steps.{Rules}
 use Rattle.grammar.specs.Trees as tree
 use Rattle.grammar.specs.Trees.{MeasureTree, PropertyTree}
 use Rattle.grammar.proofs.Following.{Follows, breaks, FollowsReader, follows_as, read_follows, then_follows, by_token_follows, behind_follows, refuse_follows, got_follows, taken_follows, cond_follows, rule_follows, passing_follows}
-use Rattle.grammar.proofs.Keeping.{both_true}
 use Rattle.grammar.proofs.TokenReaders.{none_left}
 
 -- every test is passed
@@ -26,7 +28,7 @@ punctuation_follows p n [] = by_token_follows (λ k t. taking (is_mark p k) 2 tt
 punctuation_follows p n (x ∷ s) = by_token_follows (λ k t. taking (is_mark p k) 2 tt n t) (cond_follows (is_mark p x.tok) taken_follows refuse_follows)
 
 more_left : (left left' : ℕ) → left ≤ left' → ltb 0 left ≡ true → ltb 0 left' ≡ true
-more_left left left' h e = lt-ltb 0 left' (let l = ltb-true 0 left e in omega arith)
+more_left left left' h e = grind (arith, lt-ltb, ltb-true)
 
 opening_follows : (left left' : ℕ) → left ≤ left' → FollowsReader (opening left') (opening left)
 opening_follows left left' h n [] = by_token_follows (λ k t. cond (is_mark Open k) (taking (ltb 0 left') 6 tt n t) (refuse 2 t)) refuse_follows
@@ -34,24 +36,14 @@ opening_follows left left' h n (x ∷ s) = by_token_follows (λ k t. cond (is_ma
 
 -- an opening bracket is read only where some nesting is left
 opening_got : (left n m : ℕ) (s t : List Spot) (u : Unit {0}) → opening left n s ≡ got u m t → ltb 0 left ≡ true
-opening_got left n m s t u e = by (is_mark Open (first s).tok) (ltb 0 left) e
-  where
-    by : (b c : Bool) → cond b (cond c (got u n (rest s)) (refuse 6 s)) (refuse 2 s) ≡ got u m t → c ≡ true
-    by true true e = refl
-    by true false e = cc
-    by false true e = refl
-    by false false e = cc
+opening_got left n m s t u e = grind arith
 
 prefix_sign_got : (rules : Rules) (left n m : ℕ) (s t : List Spot) (u : Unit {0}) → prefix_sign rules left n s ≡ got u m t → ltb 0 left ≡ true
-prefix_sign_got rules left n m s t u e = by (ltb 0 left) (leb (suc n) rules.parts) e
-  where
-    by : (b c : Bool) → cond (b && c) (got u (suc n) (rest s)) (refuse 6 s) ≡ got u m t → b ≡ true
-    by true c e = refl
-    by false c e = cc
+prefix_sign_got rules left n m s t u e = grind arith
 
 module _ (rules : Rules) (parts nesting : ℕ) (roomy : rules.parts ≤ parts) where
   pub room : (n : ℕ) → leb n rules.parts ≡ true → leb n parts ≡ true
-  room n e = le-leb n parts (let l = leb-true n rules.parts e in omega arith)
+  room n e = grind (arith, le-leb, leb-true)
 
   first_moment_follows : FollowsReader (λ n s. first_moment (lax parts nesting) (window_numeral (signed_numeral (first s).tok)) n s) (λ n s. first_moment rules (window_numeral (signed_numeral (first s).tok)) n s)
   first_moment_follows n [] = by_token_follows (λ k t. first_moment (lax parts nesting) (window_numeral (signed_numeral k)) n t) refuse_follows
@@ -157,25 +149,25 @@ module _ (rules : Rules) (parts nesting : ℕ) (roomy : rules.parts ≤ parts) w
   measure_follows (suc left) zero h inside n s = absurd (omega arith)
   measure_follows (suc left) (suc left') h inside n s = measure_by_token (suc left) (suc left') (measure rules left) (measure (lax parts nesting) left') inside h (λ _ b. measure_follows left left' (omega arith) b) n s
 
-  compared_follows : (left left' : ℕ) → left ≤ left' → (changes : Bool) (l : MeasureTree) → FollowsReader (compared (lax parts nesting) left' changes l) (compared rules left changes l)
-  compared_follows left left' h changes l n [] = by_token_follows (λ k t. compared_by (lax parts nesting) left' changes l (comparator_of k) n t) refuse_follows
-  compared_follows left left' h changes l n (x ∷ s) = by_token_follows (λ k t. compared_by (lax parts nesting) left' changes l (comparator_of k) n t) (by (comparator_of x.tok))
+  compared_follows : (left left' : ℕ) → left ≤ left' → (q : Quantity) (l : MeasureTree) → FollowsReader (compared (lax parts nesting) left' q l) (compared rules left q l)
+  compared_follows left left' h q l n [] = by_token_follows (λ k t. compared_by (lax parts nesting) left' q l (comparator_of k) n t) refuse_follows
+  compared_follows left left' h q l n (x ∷ s) = by_token_follows (λ k t. compared_by (lax parts nesting) left' q l (comparator_of k) n t) (by (comparator_of x.tok))
     where
-      by : (o : Option Comparator) → Follows (compared_by (lax parts nesting) left' changes l o n) (x ∷ s) (compared_by rules left changes l o n (x ∷ s))
+      by : (o : Option Comparator) → Follows (compared_by (lax parts nesting) left' q l o n) (x ∷ s) (compared_by rules left q l o n (x ∷ s))
       by None = refuse_follows
       by (Some c) = brought_follows _ _ n (x ∷ s) (then_follows (behind_follows (measure_follows left left' h false (suc n) s)) (λ r n s. got_follows))
 
   pub comparison_follows : (left left' : ℕ) → left ≤ left' → FollowsReader (comparison (lax parts nesting) left') (comparison rules left)
-  comparison_follows left left' h n s = then_follows (measure_follows left left' h false n s) (λ m n s. compared_follows left left' h false m n s)
+  comparison_follows left left' h n s = then_follows (measure_follows left left' h false n s) (λ m n s. compared_follows left left' h Value m n s)
 
   change_follows : (left left' : ℕ) → left ≤ left' → (n : ℕ) (x : Spot) (s : List Spot) → Follows (change_comparison (lax parts nesting) left' n) (x ∷ s) (change_comparison rules left n (x ∷ s))
   change_follows left left' h n x s =
       then_follows (behind_follows (opening_follows left left' h n s)) (λ _ n s.
       then_follows (measure_follows (pred left) (pred left') (omega arith) false n s) (λ m n s.
-      then_follows (punctuation_follows Close n s) (λ _ n s. compared_follows left left' h true m n s)))
+      then_follows (punctuation_follows Close n s) (λ _ n s. compared_follows left left' h Change m n s)))
 
   prefix_sign_follows : (left left' : ℕ) → left ≤ left' → (n : ℕ) (x : Spot) (s : List Spot) → Follows (prefix_sign (lax parts nesting) left' n) (x ∷ s) (prefix_sign rules left n (x ∷ s))
-  prefix_sign_follows left left' h n x s = rule_follows (ltb 0 left && leb (suc n) rules.parts) 6 _ _ (λ z. omega arith) (λ e. let b = both_true (ltb 0 left) (leb (suc n) rules.parts) e in passing_follows _ (ap₂ ◌&&◌ (more_left left left' h b.0) (room (suc n) b.1)) taken_follows)
+  prefix_sign_follows left left' h n x s = rule_follows (ltb 0 left && leb (suc n) rules.parts) 6 _ _ (λ z. omega arith) (λ e. let b = and_parts (ltb 0 left) (leb (suc n) rules.parts) e in passing_follows _ (ap₂ ◌&&◌ (more_left left left' h b.0) (room (suc n) b.1)) taken_follows)
 
   prefixed_follows : (left left' : ℕ) (inner inner' : Reader PropertyTree) (y : PrefixSign) (n : ℕ) (x : Spot) (s : List Spot) → left ≤ left' → (ltb 0 left ≡ true → FollowsReader inner' inner) → Follows (prefixed_by (lax parts nesting) left' y inner' n) (x ∷ s) (prefixed_by rules left y inner n (x ∷ s))
   prefixed_follows left left' inner inner' y n x s h f =

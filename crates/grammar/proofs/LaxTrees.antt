@@ -1,6 +1,8 @@
 -- No tree breaks a lax rule, if its parts and its nesting have room.
-use Rattle.std.proofs.Common.{◌≡◌, ℕ, suc, ◌+◌, ◌≤◌, Bool, true, false, cond, List, [], ◌∷◌, ◌++◌, length, None, sym, refl, ap, ◌∙◌, arith, le-leb}
+use Rattle.std.proofs.Common.{◌≡◌, ℕ, suc, ◌+◌, ◌≤◌, List, [], ◌∷◌, ◌++◌, length, None, sym, refl, ap, ◌∙◌, arith, le-leb}
 use lib.ListN.{length-map}
+use Rattle.parts.specs.declared.kinds.Quantity.{Quantity}
+use Rattle.parts.specs.declared.kinds.Quantity.TheVariants.{Value, Change}
 use Rattle.tokens.specs.Tokens.{Tok}
 use Rattle.grammar.specs.Faults.{brought_by, broken_by, first_broken}
 use Rattle.grammar.specs.Laws.{steps, Reads}
@@ -30,17 +32,13 @@ measure_depth (binary b m n) = suc (measure_depth m + measure_depth n)
 measure_depth (over s a b m) = suc (measure_depth m)
 
 pub property_depth : PropertyTree → ℕ
-property_depth (compare changes c m n) = suc (measure_depth m + measure_depth n)
+property_depth (compare q c m n) = suc (measure_depth m + measure_depth n)
 property_depth (prefixed l p) = suc (property_depth p)
 property_depth (joined l p q) = property_depth p + property_depth q
 property_depth (bracketed p) = suc (property_depth p)
 
 brought_by_most : (n : ℕ) (x : Step) → brought_by n x ≤ suc n
-brought_by_most n x = by x.brings
-  where
-    by : (b : Bool) → cond b (suc n) n ≤ suc n
-    by true = omega arith
-    by false = omega arith
+brought_by_most n x = grind arith
 
 module _ (parts nesting : ℕ) where
   none_broken : {xs : List Step} (n i : ℕ) → n + length xs ≤ parts → Mild nesting xs → first_broken (lax parts nesting) n xs i ≡ None
@@ -76,13 +74,13 @@ module _ (parts nesting : ℕ) where
     mild_link iff = more refl (omega arith) none
     mild_link (until a b) = more refl (omega arith) (mild_window a b)
 
-    mild_left : (d : ℕ) (changes : Bool) (m : MeasureTree) → suc (d + measure_depth m) ≤ k → Mild k (left_steps (lax parts nesting) d changes m)
-    mild_left d false m h = mild_measure d m (omega arith)
-    mild_left d true m h = more refl (omega arith) (more refl (omega arith) (both (mild_measure (suc d) m (omega arith)) (more refl (omega arith) none)))
+    mild_left : (d : ℕ) (q : Quantity) (m : MeasureTree) → suc (d + measure_depth m) ≤ k → Mild k (left_steps (lax parts nesting) d q m)
+    mild_left d Value m h = mild_measure d m (omega arith)
+    mild_left d Change m h = more refl (omega arith) (more refl (omega arith) (both (mild_measure (suc d) m (omega arith)) (more refl (omega arith) none)))
 
     mild_property : (d : ℕ) (p : PropertyTree) → d + property_depth p ≤ k → Mild k (property_steps (lax parts nesting) d p)
     unfolding property_depth
-    mild_property d (compare changes c m n) h = both (mild_left d changes m (omega arith)) (more refl (omega arith) (mild_measure d n (omega arith)))
+    mild_property d (compare q c m n) h = both (mild_left d q m (omega arith)) (more refl (omega arith) (mild_measure d n (omega arith)))
     mild_property d (prefixed l p) h = both (mild_lead (suc d) l (omega arith)) (mild_property (suc d) p (omega arith))
     mild_property d (joined l p q) h = both (mild_property d p (omega arith)) (both (mild_link l) (mild_property d q (omega arith)))
     mild_property d (bracketed p) h = more refl (omega arith) (both (mild_property (suc d) p (omega arith)) (more refl (omega arith) none))

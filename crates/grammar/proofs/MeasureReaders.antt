@@ -57,9 +57,7 @@ called_is (called_statistic h) = (_, a_statistic h.1)
 
 called_steps : {inside : Bool} {name : Tok} {m : MeasureTree} (rules : Rules) (d : ℕ) → Called inside name m → measure_steps rules d m ≡ call_steps rules (suc d) name m (argument_steps rules (suc d) m)
 unfolding argument_steps
-called_steps rules d (called_unary h) = refl
-called_steps rules d (called_binary h k) = refl
-called_steps rules d (called_statistic h) = refl
+called_steps rules d h = grind arith
 
 module _ {rules : Rules} where
   ending_right : {inside : Bool} {n n' d place : ℕ} {name : Tok} {t s' : List Spot} (m : MeasureTree) → Called inside name m → Room rules n' → Spelled rules n (spot name place ∷ t) (bringing name ∷ nesting (suc d) (mark Open) ∷ argument_steps rules (suc d) m) n' s' → Right rules (measures rules d inside) n (spot name place ∷ t) (reading.ending rules place m n' s')

@@ -1,5 +1,5 @@
 -- When a reader's answer is right for a language: what it read is spelled there and breaks no rule, or what it read goes on in the language and the next token is at fault. One reader after another is right if each is.
-use Rattle.std.proofs.Common.{◌≡◌, ℕ, List, ◌∷◌, ◌++◌, length, Some, sym, ap, ◌∙◌, append_assoc}
+use Rattle.std.proofs.Common.{◌≡◌, ℕ, List, ◌∷◌, ◌++◌, length, Some, sym, ap, ◌∙◌, append_assoc, arith}
 use Rattle.tokens.specs.Tokens.{Spot}
 use Rattle.grammar.specs.Faults.{broken_by}
 use Rattle.grammar.specs.Reading.{Outcome, got, fault, Reader, and_then, first, rest}
@@ -65,8 +65,7 @@ module _ {rules : Rules} where
       }
 
   why_behind : {n m n' number place : ℕ} {s t s' : List Spot} {xs ys left : List Step} (others : List Step) → Spelled rules n s xs m t → Why rules m t ys n' s' left number place → Why rules n s (xs ++ ys) n' s' (left ++ others) number place
-  why_behind others w cannot = cannot
-  why_behind others w (broken ne b p) = broken ne b (placed_behind w p)
+  why_behind others w h = grind (arith, cannot, broken, placed_behind)
 
   -- a refusal of what is read last, where that goes on in M
   refused_behind : {B : Type 0} {M : Language B} {n m n' number place : ℕ} {s t s' : List Spot} {xs ys zs left : List Step} → Spelled rules n s xs m t → zs ≡ ys ++ left → Spelled rules m t ys n' s' → Why rules m t ys n' s' left number place → Onward M (xs ++ zs) → Right rules M n s (fault number place s')

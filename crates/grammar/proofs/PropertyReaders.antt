@@ -1,14 +1,16 @@
 -- The readers of comparisons, operands, levels and formulas are right.
-use Rattle.std.proofs.Common.{◌≡◌, ℕ, zero, suc, pred, ◌+◌, Bool, true, false, ◌&&◌, ltb, leb, List, [], ◌∷◌, ◌++◌, length, Some, None, Option, sym, refl, ap, ◌∙◌, subst, append_assoc, append-nil, zero-add, arith, ltb-true}
+use Rattle.std.proofs.Common.{◌≡◌, ℕ, zero, suc, pred, ◌+◌, true, false, ◌&&◌, ltb, leb, List, [], ◌∷◌, ◌++◌, length, Some, None, Option, sym, refl, ap, ◌∙◌, subst, append_assoc, append-nil, zero-add, arith, ltb-true}
 use Rattle.parts.specs.declared.kinds.Comparator.{Comparator}
 use Rattle.parts.specs.declared.kinds.Comparator.TheVariants.{Less}
+use Rattle.parts.specs.declared.kinds.Quantity.{Quantity}
+use Rattle.parts.specs.declared.kinds.Quantity.TheVariants.{Value, Change}
 use Rattle.tokens.specs.Tokens.{Tok, Spot, mark, change, comparator, unary, binary, statistic, prefix, connective, numeral, variable, stray, stop}
 use Rattle.tokens.specs.declared.words.ConnectiveSign.{ConnectiveSign}
 use Rattle.tokens.specs.declared.words.PrefixSign.{PrefixSign}
 use Rattle.tokens.specs.declared.words.Punctuation.TheVariants.{Open, Close}
 use Rattle.grammar.specs.Layers.{PropertyText, a_comparison, a_prefix, a_bracket, tighter, a_link, loosest}
 use Rattle.grammar.specs.Reading.{got, Reader, and_then, refuse, bring, comparator_of, compared_by, compared, comparison, change_comparison, prefix_sign, prefixed_by, bracketed_by, operand_at, sign_at, sign_level, linked, links, tier, operand, formula}
-use Rattle.grammar.specs.Steps.{Rules, Step, unless, plain, bringing, nesting, leading, link_steps, left_steps, measure_steps, property_steps}
+use Rattle.grammar.specs.Steps.{Rules, Step, plain, bringing, nesting, leading, link_steps, left_steps, measure_steps, property_steps}
 use Rattle.grammar.specs.Trees.{MeasureTree, Lead, Link, PropertyTree, compare, prefixed, joined, bracketed}
 use Rattle.grammar.proofs.Keeping.{Room, leb_left, plain_judged}
 use Rattle.grammar.proofs.MeasureReaders.{AMeasure, some_measure, some_measure_is, measure_fine}
@@ -25,15 +27,15 @@ AProperty level p = (ts : List Tok) × PropertyText level ts p
 abbrev pub properties : Rules → ℕ → ℕ → Language PropertyTree
 properties rules d level = record { steps = property_steps rules d; has = AProperty level }
 
-a_comparison_is : (changes : Bool) (c : Comparator) {m n : MeasureTree} → AMeasure false m → AMeasure false n → AProperty 0 (compare changes c m n)
-a_comparison_is changes c h k = (_, a_comparison {d = changes} {c = c} h.1 k.1)
+a_comparison_is : (q : Quantity) (c : Comparator) {m n : MeasureTree} → AMeasure false m → AMeasure false n → AProperty 0 (compare q c m n)
+a_comparison_is q c h k = (_, a_comparison {q = q} {c = c} h.1 k.1)
 
 -- a comparison can stand wherever a formula can
 abbrev some_property : PropertyTree
-some_property = compare false Less some_measure some_measure
+some_property = compare Value Less some_measure some_measure
 
 some_property_is : (level : ℕ) → AProperty level some_property
-some_property_is zero = a_comparison_is false Less some_measure_is some_measure_is
+some_property_is zero = a_comparison_is Value Less some_measure_is some_measure_is
 some_property_is (suc level) = let h = some_property_is level in (h.0, tighter h.1)
 
 bracket_is : {p : PropertyTree} → AProperty loosest p → AProperty 0 (bracketed p)
@@ -48,53 +50,47 @@ link_is e k h i = (_, a_link (linked_level k ∙ e) h.1 i.1)
 pub deeper_behind : (d left : ℕ) {most : ℕ} → d + left ≡ most → ltb 0 left ≡ true → suc d + pred left ≡ most
 deeper_behind d left deep l = let h = ltb-true 0 left l in omega arith
 
-swapped : (a b : Bool) → (a && b) ≡ (b && a)
-swapped true true = refl
-swapped true false = refl
-swapped false true = refl
-swapped false false = refl
-
 -- the steps of a joined tree, as they are read
 joined_steps : (ps qs rs ls : List Step) (x : Step) → ls ≡ x ∷ rs → ps ++ (ls ++ qs) ≡ ((ps ++ (x ∷ [])) ++ rs) ++ qs
-joined_steps ps qs rs ls x e = ap (λ (ks : List Step). ps ++ (ks ++ qs)) e ∙ simp append_assoc
+joined_steps ps qs rs ls x e = grind (arith, append_assoc)
 
 pub prefixed_steps : {x : PrefixSign} {l : Lead} (rules : Rules) (d : ℕ) (p : PropertyTree) → Led x l → property_steps rules d (prefixed l p) ≡ leading (suc d) (prefix x) ∷ (lead_rest rules l ++ property_steps rules (suc d) p)
 prefixed_steps rules d p h = ap (λ (ks : List Step). ks ++ property_steps rules (suc d) p) (led_steps rules (suc d) h)
 
 module _ {rules : Rules} where
-  compared_right : (d left : ℕ) (changes : Bool) {n n' : ℕ} {s : List Spot} {m : MeasureTree} (s' : List Spot) → d + left ≡ rules.nesting → AMeasure false m → Room rules n' → Spelled rules n s (left_steps rules d changes m) n' s' → Right rules (properties rules d 0) n s (compared rules left changes m n' s')
-  compared_right d left changes [] deep h r w = refuses (a_comparison_is changes Less h some_measure_is) refl w cannot
-  compared_right d left changes {n} {n'} {s} {m} (x ∷ s') deep h r w = by (comparator_of x.tok) refl
+  compared_right : (d left : ℕ) (q : Quantity) {n n' : ℕ} {s : List Spot} {m : MeasureTree} (s' : List Spot) → d + left ≡ rules.nesting → AMeasure false m → Room rules n' → Spelled rules n s (left_steps rules d q m) n' s' → Right rules (properties rules d 0) n s (compared rules left q m n' s')
+  compared_right d left q [] deep h r w = refuses (a_comparison_is q Less h some_measure_is) refl w cannot
+  compared_right d left q {n} {n'} {s} {m} (x ∷ s') deep h r w = by (comparator_of x.tok) refl
     where
       ls : List Step
-      ls = left_steps rules d changes m
+      ls = left_steps rules d q m
 
-      signed : (c : Comparator) → Spelled rules n s ls n' (spot (comparator c) x.at ∷ s') → Right rules (properties rules d 0) n s (compared_by rules left changes m (Some c) n' (spot (comparator c) x.at ∷ s'))
+      signed : (c : Comparator) → Spelled rules n s ls n' (spot (comparator c) x.at ∷ s') → Right rules (properties rules d 0) n s (compared_by rules left q m (Some c) n' (spot (comparator c) x.at ∷ s'))
       signed c w =
-          behind_right (bring rules n' (spot (comparator c) x.at ∷ s')) w r (bring_right (comparator c) n' x.at s') (λ _ _. (compare changes c m some_measure, a_comparison_is changes c h some_measure_is, _, sym (append_assoc ls (bringing (comparator c) ∷ []) (measure_steps rules d some_measure)))) (λ _ n s _ r w.
-          then_right w r (measure_fine d left deep false n _ r) (λ k i. (compare changes c m k, a_comparison_is changes c h i, [], simp (append_assoc, append-nil))) (λ k n s i r w.
-          reads (a_comparison_is changes c h i) (respelled (append_assoc ls (bringing (comparator c) ∷ []) (measure_steps rules d k)) w)))
+          behind_right (bring rules n' (spot (comparator c) x.at ∷ s')) w r (bring_right (comparator c) n' x.at s') (λ _ _. (compare q c m some_measure, a_comparison_is q c h some_measure_is, _, sym (append_assoc ls (bringing (comparator c) ∷ []) (measure_steps rules d some_measure)))) (λ _ n s _ r w.
+          then_right w r (measure_fine d left deep false n _ r) (λ k i. (compare q c m k, a_comparison_is q c h i, [], simp (append_assoc, append-nil))) (λ k n s i r w.
+          reads (a_comparison_is q c h i) (respelled (append_assoc ls (bringing (comparator c) ∷ []) (measure_steps rules d k)) w)))
 
-      by : (o : Option Comparator) → comparator_of x.tok ≡ o → Right rules (properties rules d 0) n s (compared_by rules left changes m o n' (x ∷ s'))
-      by None e = refuses (a_comparison_is changes Less h some_measure_is) refl w cannot
-      by (Some c) e = subst (λ (t : Tok). Spelled rules n s ls n' (spot t x.at ∷ s') → Right rules (properties rules d 0) n s (compared_by rules left changes m (Some c) n' (spot t x.at ∷ s'))) (sym (comparator_is x.tok c e)) (signed c) w
+      by : (o : Option Comparator) → comparator_of x.tok ≡ o → Right rules (properties rules d 0) n s (compared_by rules left q m o n' (x ∷ s'))
+      by None e = refuses (a_comparison_is q Less h some_measure_is) refl w cannot
+      by (Some c) e = subst (λ (t : Tok). Spelled rules n s ls n' (spot t x.at ∷ s') → Right rules (properties rules d 0) n s (compared_by rules left q m (Some c) n' (spot t x.at ∷ s'))) (sym (comparator_is x.tok c e)) (signed c) w
 
   comparison_fine : (d left : ℕ) → d + left ≡ rules.nesting → Fine rules (comparison rules left) (properties rules d 0)
   comparison_fine d left deep n s r =
-      then_right none r (measure_fine d left deep false n s r) (λ m h. (compare false Less m some_measure, a_comparison_is false Less h some_measure_is, _, refl)) (λ m n s h r w.
-      compared_right d left false s deep h r w)
+      then_right none r (measure_fine d left deep false n s r) (λ m h. (compare Value Less m some_measure, a_comparison_is Value Less h some_measure_is, _, refl)) (λ m n s h r w.
+      compared_right d left Value s deep h r w)
 
   change_right : (d left n place : ℕ) (s : List Spot) → d + left ≡ rules.nesting → Room rules n → Right rules (properties rules d 0) n (spot change place ∷ s) (change_comparison rules left n (spot change place ∷ s))
   change_right d left n place s deep r =
-      then_right (more (plain_judged rules n change r) none) r (opening_fine d left deep n s r) (λ _ _. (compare true Less some_measure some_measure, a_comparison_is true Less some_measure_is some_measure_is, _, refl)) (λ _ n s _ r w.
-      then_right w r (measure_fine (suc d) (pred left) (deeper_behind d left deep (left_over d left (plain change ∷ []) (nesting (suc d) (mark Open)) deep refl w)) false n s r) (λ m h. (compare true Less m some_measure, a_comparison_is true Less h some_measure_is, _, ap {B = List Step} (λ (ks : List Step). plain change ∷ nesting (suc d) (mark Open) ∷ ks) (append_assoc (measure_steps rules (suc d) m) (plain (mark Close) ∷ []) (bringing (comparator Less) ∷ measure_steps rules d some_measure)))) (λ m n s h r w.
-      then_right w r (punctuation_fine Close n s r) (λ _ _. (compare true Less m some_measure, a_comparison_is true Less h some_measure_is, _, refl)) (λ _ n s _ r w.
-      compared_right d left true s deep h r w)))
+      then_right (more (plain_judged rules n change r) none) r (opening_fine d left deep n s r) (λ _ _. (compare Change Less some_measure some_measure, a_comparison_is Change Less some_measure_is some_measure_is, _, refl)) (λ _ n s _ r w.
+      then_right w r (measure_fine (suc d) (pred left) (deeper_behind d left deep (left_over d left (plain change ∷ []) (nesting (suc d) (mark Open)) deep refl w)) false n s r) (λ m h. (compare Change Less m some_measure, a_comparison_is Change Less h some_measure_is, _, ap {B = List Step} (λ (ks : List Step). plain change ∷ nesting (suc d) (mark Open) ∷ ks) (append_assoc (measure_steps rules (suc d) m) (plain (mark Close) ∷ []) (bringing (comparator Less) ∷ measure_steps rules d some_measure)))) (λ m n s h r w.
+      then_right w r (punctuation_fine Close n s r) (λ _ _. (compare Change Less m some_measure, a_comparison_is Change Less h some_measure_is, _, refl)) (λ _ n s _ r w.
+      compared_right d left Change s deep h r w)))
 
   prefix_sign_right : (d left n place : ℕ) (s : List Spot) (x : PrefixSign) → d + left ≡ rules.nesting → Right rules (one (leading (suc d) (prefix x))) n (spot (prefix x) place ∷ s) (prefix_sign rules left n (spot (prefix x) place ∷ s))
   prefix_sign_right d left n place s x deep =
       take_right tt (leading (suc d) (prefix x)) (ltb 0 left && leb (suc n) rules.parts) 6 (λ z. omega arith)
-      (ap (λ (b : Bool). unless b 6) (ap (λ (k : ℕ). leb (suc n) rules.parts && leb (suc d) k) (sym deep) ∙ ap (λ (b : Bool). leb (suc n) rules.parts && b) (leb_left d left) ∙ swapped (leb (suc n) rules.parts) (ltb 0 left))) refl tt refl
+      (grind (arith, leb_left d left, deep)) refl tt refl
 
   prefixed_right : {inner : Reader PropertyTree} (d left n place : ℕ) (s : List Spot) (x : PrefixSign) → d + left ≡ rules.nesting → Room rules n → (ltb 0 left ≡ true → Fine rules inner (properties rules (suc d) 0)) → Right rules (properties rules d 0) n (spot (prefix x) place ∷ s) (prefixed_by rules left x inner n (spot (prefix x) place ∷ s))
   prefixed_right d left n place s x deep r fine =
@@ -165,4 +161,4 @@ module _ {rules : Rules} where
   operand_fine d (suc left) deep n (x ∷ s) r = operand_at_right d (suc left) deep (λ _. operand_fine (suc d) left (deeper d left deep)) (λ _. tier_fine (suc d) (operand_fine (suc d) left (deeper d left deep)) loosest) x.tok n x.at s r
 
   pub formula_fine : Fine rules (formula rules rules.nesting) (properties rules 0 loosest)
-  formula_fine = tier_fine 0 (operand_fine 0 rules.nesting (zero-add rules.nesting)) loosest
+  formula_fine = grind (arith, tier_fine, operand_fine, zero-add)

@@ -1,14 +1,15 @@
 -- A refusal is at the first token at fault: what stands before it goes on to a text, and the token cannot follow, or it is the first that breaks a rule.
-use Rattle.std.proofs.Common.{◌≡◌, ℕ, ◌+◌, ◌-◌, List, [], ◌∷◌, ◌++◌, length, take, drop, Some, sym, refl, ap, ◌∙◌, subst, zero-add, arith, length-append}
+use Rattle.std.proofs.Common.{◌≡◌, ℕ, ◌+◌, ◌-◌, List, ◌∷◌, ◌++◌, length, take, drop, Some, sym, refl, ap, ◌∙◌, subst, zero-add, arith, length-append}
 use mathlib.Core.List.{map-append}
 use lib.ListN.{length-map}
 use lib.Seq.{take-append_seam, drop-append_seam}
 use Rattle.std.specs.List.{slice_get}
 use Rattle.tokens.specs.Tokens.{Tok, Spot}
+use Rattle.parts.proofs.NodesOfParts.{nth_at}
 use Rattle.grammar.specs.Faults.{first_broken}
 use Rattle.grammar.specs.Laws.{toks, steps, Unbroken, Breaks}
 use Rattle.grammar.specs.Layers.{PropertyText, loosest}
-use Rattle.grammar.specs.Reading.{Outcome, fault, first, reading}
+use Rattle.grammar.specs.Reading.{fault, first, reading}
 use Rattle.grammar.specs.Steps.{Rules, Step}
 use Rattle.grammar.specs.Trees.{PropertyTree}
 use Rattle.grammar.proofs.FirstBroken.{none_broken, broken_behind}
@@ -17,13 +18,6 @@ use Rattle.grammar.proofs.PropertyReaders.{AProperty, properties}
 use Rattle.grammar.proofs.SoundReading.{reading_right}
 use Rattle.grammar.proofs.Spelling.{Spelled, step_tokens, consumed, consumed_then, consumed_tokens}
 use Rattle.grammar.proofs.TextTokens.{property_tokens}
-
-nth_seam : (xs ys : List Step) (x : Step) → slice_get (xs ++ (x ∷ ys)) (length xs) ≡ Some x
-nth_seam [] ys x = refl
-nth_seam (y ∷ xs) ys x = nth_seam xs ys x
-
-same : (x y : Step) → Some x ≡ Some y → x ≡ y
-same x y e = cc
 
 module _ {rules : Rules} where
   consumed_length : {n n' : ℕ} {s s' : List Spot} {xs : List Step} (w : Spelled rules n s xs n' s') → length (consumed w) ≡ length xs
@@ -35,7 +29,7 @@ module _ {rules : Rules} where
 
   -- none of what was read breaks a rule
   kept_so_far : {n : ℕ} {s s' : List Spot} {xs : List Step} (left : List Step) (p : PropertyTree) → steps rules p ≡ xs ++ left → (w : Spelled rules 0 s xs n s') → Unbroken rules (take (length (toks (consumed w))) (steps rules p))
-  kept_so_far {xs} left p e w = ap (λ (ys : List Step). first_broken rules 0 ys 0) (ap (λ (k : ℕ). take k (steps rules p)) (length-map (consumed w) (λ t. t.tok) ∙ consumed_length w) ∙ ap (λ (ys : List Step). take (length xs) ys) e ∙ take-append_seam xs left) ∙ none_broken 0 w
+  kept_so_far left p e w = grind (arith, length-map, consumed_length, take-append_seam, none_broken)
 
   -- the place of the token so many tokens back
   place_of : {n back place : ℕ} {s s' : List Spot} {xs : List Step} → Placed rules 0 s xs n s' back place → (w : Spelled rules 0 s xs n s') → place ≡ (first (drop (length (consumed w) - back) s)).at
@@ -46,14 +40,13 @@ module _ {rules : Rules} where
 
   -- a refusal by 2 is placed at the token that cannot follow
   cannot_there : {n n' number place : ℕ} {s s' : List Spot} {xs left : List Step} → number ≡ 2 → Why rules n s xs n' s' left number place → place ≡ (first s').at
-  cannot_there two cannot = refl
-  cannot_there two (broken not_two b q) = absurd (not_two two)
+  cannot_there two h = grind arith
 
   breaks_there : {n number place : ℕ} {s s' : List Spot} {xs left : List Step} {p : PropertyTree} → AProperty loosest p → steps rules p ≡ xs ++ left → (w : Spelled rules 0 s xs n s') → (number ≡ 2 → ⊥) → Why rules 0 s xs n s' left number place → (back : ℕ) × (place ≡ (first (drop (length (consumed w) - back) s)).at) × Breaks rules (toks (consumed w)) (first s').tok number back
   breaks_there h k w not_two cannot = absurd (not_two refl)
   breaks_there {number} {xs} {p} h k w not_two (broken {x} {left} ne b q) =
       let size : length (toks (consumed w)) ≡ length xs = length-map (consumed w) (λ t. t.tok) ∙ consumed_length w in
-      let there : slice_get (steps rules p) (length (toks (consumed w))) ≡ Some x = ap (λ (i : ℕ). slice_get (steps rules p) i) size ∙ ap (λ (ys : List Step). slice_get ys (length xs)) k ∙ nth_seam xs left x in (
+      let there : slice_get (steps rules p) (length (toks (consumed w))) ≡ Some x = ap (λ (i : ℕ). slice_get (steps rules p) i) size ∙ ap (λ (ys : List Step). slice_get ys (length xs)) k ∙ nth_at xs left x in (
         x.back,
         place_of q w,
         record {
@@ -61,13 +54,13 @@ module _ {rules : Rules} where
           p = p;
           text = text_of (x ∷ left) h k w;
           broken = ap (λ (ys : List Step). first_broken rules 0 ys 0) k ∙ broken_behind x left 0 w b ∙ ap (λ (i : ℕ). Some (number, i)) (zero-add (length xs) ∙ sym size);
-          placed = λ y e. ap (λ (z : Step). z.back) (same y x (sym e ∙ there));
+          placed = λ y e. let both : Some y ≡ Some x = sym e ∙ there in cc;
         },
       )
 
 -- a refusal, with what was read before it
 refusal_right : (rules : Rules) (s : List Spot) (number place : ℕ) (s' : List Spot) → reading rules s ≡ fault number place s' → Right rules (properties rules 0 loosest) 0 s (fault number place s')
-refusal_right rules s number place s' e = subst (λ (o : Outcome PropertyTree). Right rules (properties rules 0 loosest) 0 s o) e (reading_right rules s)
+refusal_right rules s number place s' e = grind (arith, reading_right)
 
 -- what stands before goes on to a text, and none of it breaks a rule
 abbrev pub GoesOn : Rules → List Tok → Type 0

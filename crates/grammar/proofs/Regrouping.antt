@@ -1,6 +1,7 @@
 -- The layered grammar has the texts of the published one: what it relates to a tree is derived, and every derived text has a tree, its operands grouped anew. Assumes nothing.
 use Rattle.std.proofs.Common.{ℕ, zero, suc, ◌≤◌, true, false, List, ◌++◌, ⊎_elim, append_assoc, arith}
 use Rattle.std.proofs.lemmas.Bool.{cases_eq}
+use Rattle.parts.specs.declared.kinds.Quantity.TheVariants.{Value, Change}
 use Rattle.tokens.specs.Tokens.{Tok}
 use Rattle.tokens.specs.declared.words.Sign.TheVariants.{Unsigned, Plus, Minus}
 use Rattle.grammar.specs.Derivations as published
@@ -38,8 +39,8 @@ linked iff p q = published.equivalence p q
 linked (until a b) p q = published.until a b p q
 
 derived_at : {level : ℕ} {ts : List Tok} {p : PropertyTree} → PropertyText level ts p → LogicProperty ts
-derived_at (a_comparison {d = false} {c = c} m n) = published.comparison c (temporal m) (temporal n)
-derived_at (a_comparison {d = true} {c = c} m n) = published.change_comparison c (temporal m) (temporal n)
+derived_at (a_comparison {q = Value} {c = c} m n) = published.comparison c (temporal m) (temporal n)
+derived_at (a_comparison {q = Change} {c = c} m n) = published.change_comparison c (temporal m) (temporal n)
 derived_at (a_prefix {l = l} t p) = led l t (derived_at p)
 derived_at (a_bracket p) = published.bracket (derived_at p)
 derived_at (tighter p) = derived_at p
@@ -78,11 +79,7 @@ prefix_left l t (tighter p) = (_, tighter (prefix_left l t p).1)
 prefix_left l t (a_link {l = k} {ps = ps} {qs = qs} e p q) = rw (← append_assoc (lead_tokens l) ps (link_tokens k ++ qs)) (_, a_link e (prefix_left l t p).1 q)
 
 above_operands : (l : Link) → link_level l ≤ 0 → ⊥
-above_operands and h = omega arith
-above_operands or h = omega arith
-above_operands implies h = omega arith
-above_operands iff h = omega arith
-above_operands (until a b) h = omega arith
+above_operands l h = grind arith
 
 -- one operand more at the right: at the level of its connective, or behind the last operand of a looser one
 operand_right : (l : Link) {level : ℕ} {ps qs : List Tok} {p q : PropertyTree} → link_level l ≤ level → PropertyText level ps p → PropertyText 0 qs q → Grouped level (ps ++ (link_tokens l ++ qs))
@@ -101,11 +98,7 @@ operand_right l {qs = qs} within (a_link {level = level} {l = k} {ps = ps} {qs =
     (cases_eq (link_level l) (suc level))
 
 within_loosest : (l : Link) → link_level l ≤ loosest
-within_loosest and = omega arith
-within_loosest or = omega arith
-within_loosest implies = omega arith
-within_loosest iff = omega arith
-within_loosest (until a b) = omega arith
+within_loosest l = grind arith
 
 -- two texts joined, by induction on the right one
 join : (l : Link) {level : ℕ} {ps qs : List Tok} {p q : PropertyTree} → PropertyText loosest ps p → PropertyText level qs q → Grouped loosest (ps ++ (link_tokens l ++ qs))
@@ -113,13 +106,11 @@ join l p (a_comparison m n) = operand_right l (within_loosest l) p (a_comparison
 join l p (a_prefix t q) = operand_right l (within_loosest l) p (a_prefix t q)
 join l p (a_bracket q) = operand_right l (within_loosest l) p (a_bracket q)
 join l p (tighter q) = join l p q
-join l {ps = ps} p (a_link {l = k} {ps = qs} {qs = ks} e q r) =
-    rw (← append_assoc (link_tokens l) qs (link_tokens k ++ ks), ← append_assoc ps (link_tokens l ++ qs) (link_tokens k ++ ks))
-    (join k (join l p q).1 r)
+join l {ps = ps} p (a_link {l = k} {ps = qs} {qs = ks} e q r) = grind (arith, append_assoc, join k (join l p q).1 r, join l p q)
 
 grouped : {ts : List Tok} → LogicProperty ts → Grouped loosest ts
-grouped (published.comparison c m n) = (_, looser loosest (a_comparison {d = false} {c = c} (measure_tree m).1 (measure_tree n).1))
-grouped (published.change_comparison c m n) = (_, looser loosest (a_comparison {d = true} {c = c} (measure_tree m).1 (measure_tree n).1))
+grouped (published.comparison c m n) = (_, looser loosest (a_comparison {q = Value} {c = c} (measure_tree m).1 (measure_tree n).1))
+grouped (published.change_comparison c m n) = (_, looser loosest (a_comparison {q = Change} {c = c} (measure_tree m).1 (measure_tree n).1))
 grouped (published.negation p) = prefix_left negation tt (grouped p).1
 grouped (published.conjunction p q) = join and (grouped p).1 (grouped q).1
 grouped (published.disjunction p q) = join or (grouped p).1 (grouped q).1

@@ -1,11 +1,11 @@
 -- What is read is the tree of the text.
-use Rattle.std.proofs.Common.{◌≡◌, ℕ, Bool, true, false, cond, List, [], ◌∷◌, ◌++◌, sym, refl, ap, ◌∙◌, subst, append-nil}
+use Rattle.std.proofs.Common.{◌≡◌, ℕ, Bool, true, false, cond, List, [], ◌∷◌, ◌++◌, sym, refl, ap, ◌∙◌, subst, append-nil, arith}
 use lib.Dec.{leb-zero}
 use Rattle.std.specs.List.{AllByRecursion}
 use Rattle.tokens.specs.Tokens.{Tok, Spot, stop, is_stop}
 use Rattle.grammar.specs.Laws.{toks, ended, steps, Reads, IsToken}
 use Rattle.grammar.specs.Layers.{PropertyText, loosest}
-use Rattle.grammar.specs.Reading.{Outcome, got, fault, and_then, refuse, first, formula, reading}
+use Rattle.grammar.specs.Reading.{Outcome, got, refuse, first, reading}
 use Rattle.grammar.specs.Steps.{Rules, property_steps}
 use Rattle.grammar.specs.Trees.{PropertyTree}
 use Rattle.grammar.proofs.FirstBroken.{none_broken}
@@ -14,7 +14,6 @@ use Rattle.grammar.proofs.PropertyReaders.{AProperty, properties, formula_fine}
 use Rattle.grammar.proofs.Spelling.{Spelled, step_tokens, consumed, consumed_then, consumed_tokens}
 use Rattle.grammar.proofs.Spelling as spelling
 use Rattle.grammar.proofs.TextTokens.{Tokens, more, property_tokens, property_has_tokens}
-use Rattle.grammar.proofs.TokenKinds.{stop_is}
 
 pub reading_right : (rules : Rules) (s : List Spot) → Right rules (properties rules 0 loosest) 0 s (reading rules s)
 reading_right rules s =
@@ -26,21 +25,13 @@ reading_right rules s =
 
 -- where something is read, the text ends behind it
 reading_ends : (rules : Rules) (s : List Spot) (p : PropertyTree) (n : ℕ) (t : List Spot) → reading rules s ≡ got p n t → (first t).tok ≡ stop
-reading_ends rules s p n t e = by (formula rules rules.nesting 0 s) e
-  where
-    tested : (q : PropertyTree) (m : ℕ) (u : List Spot) (b : Bool) → is_stop (first u).tok ≡ b → cond b (got q m u) (refuse 2 u) ≡ got p n t → (first t).tok ≡ stop
-    tested q m u true h k = let is : t ≡ u = cc in ap (λ (v : List Spot). (first v).tok) is ∙ stop_is (first u).tok h
-    tested q m u false h k = cc
-
-    by : (o : Outcome PropertyTree) → and_then o (λ p n s. cond (is_stop (first s).tok) (got p n s) (refuse 2 s)) ≡ got p n t → (first t).tok ≡ stop
-    by (got q m u) k = tested q m u (is_stop (first u).tok) refl k
-    by (fault number place u) k = cc
+reading_ends rules s p n t e = grind arith
 
 -- what stands before the end of the text is the whole text
 all_read : (us ts s : List Spot) (end : ℕ) → us ++ s ≡ ended ts end → (first s).tok ≡ stop → AllByRecursion (λ t. IsToken t.tok) ts → Tokens (toks us) → us ≡ ts
 all_read [] [] s end e f h k = refl
-all_read [] (t ∷ ts) s end e f h k = absurd (h.0 (ap (λ (v : List Spot). (first v).tok) (sym e) ∙ f))
-all_read (u ∷ us) [] s end e f h (more i k) = absurd (i (ap (λ (v : List Spot). (first v).tok) e))
+all_read [] (t ∷ ts) s end e f h k = grind arith
+all_read (u ∷ us) [] s end e f h (more i k) = grind arith
 all_read (u ∷ us) (t ∷ ts) s end e f h (more i k) =
     let there : us ++ s ≡ ended ts end = cc in
     let here : u ≡ t = cc in

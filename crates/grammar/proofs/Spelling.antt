@@ -1,5 +1,5 @@
 -- Where a text spells the steps of a tree and no step breaks a rule: such spellings are joined and parted, and are what `first_broken` asks for.
-use Rattle.std.proofs.Common.{◌≡◌, ℕ, List, [], ◌∷◌, ◌++◌, map, None, refl, ap, subst}
+use Rattle.std.proofs.Common.{◌≡◌, ℕ, List, [], ◌∷◌, ◌++◌, map, None, refl, arith}
 use Rattle.tokens.specs.Tokens.{Tok, Spot}
 use Rattle.grammar.specs.Faults.{brought_by, broken_by}
 use Rattle.grammar.specs.Steps.{Rules, Step}
@@ -22,7 +22,7 @@ module _ {rules : Rules} where
   join (more k p) q = more k (join p q)
 
   pub respelled : {n n' : ℕ} {s s' : List Spot} {xs ys : List Step} → xs ≡ ys → Spelled rules n s xs n' s' → Spelled rules n s ys n' s'
-  respelled {n} {n'} {s} {s'} e p = subst (λ (zs : List Step). Spelled rules n s zs n' s') e p
+  respelled {n} {n'} {s} {s'} e p = grind arith
 
   pub part : {ys : List Step} (xs : List Step) {n n' : ℕ} {s s' : List Spot} → Spelled rules n s (xs ++ ys) n' s' → Middle rules n s xs ys n' s'
   part [] p = (_, _, none, p)
@@ -36,9 +36,9 @@ module _ {rules : Rules} where
   pub consumed_then : {n n' : ℕ} {s s' : List Spot} {xs : List Step} (p : Spelled rules n s xs n' s') → consumed p ++ s' ≡ s
   unfolding consumed
   consumed_then none = refl
-  consumed_then (more {place} {x} k p) = ap {B = List Spot} (λ r. record { tok = x.tok; at = place } ∷ r) (consumed_then p)
+  consumed_then (more {place} {x} k p) = grind (arith, consumed_then p)
 
   pub consumed_tokens : {n n' : ℕ} {s s' : List Spot} {xs : List Step} (p : Spelled rules n s xs n' s') → map (λ t. t.tok) (consumed p) ≡ step_tokens xs
   unfolding consumed
   consumed_tokens none = refl
-  consumed_tokens (more {x} k p) = ap {B = List Tok} (λ r. x.tok ∷ r) (consumed_tokens p)
+  consumed_tokens (more {x} k p) = grind (arith, consumed_tokens p)

@@ -1,60 +1,46 @@
 -- The tokens of a text are those of its tree's steps, and none of them is the end of the text.
-use Rattle.std.proofs.Common.{◌≡◌, ℕ, suc, Bool, true, false, List, [], ◌∷◌, ◌++◌, sym, refl, ap, ◌∙◌, ap₂, arith}
+use Rattle.std.proofs.Common.{◌≡◌, ℕ, suc, Bool, false, List, [], ◌∷◌, ◌++◌, refl, ap, arith}
 use mathlib.Core.List.{map-append}
-use Rattle.tokens.specs.Tokens.{Tok, mark, change, comparator, is_stop}
-use Rattle.tokens.specs.Tokens as token
-use Rattle.tokens.specs.declared.words.Punctuation.TheVariants.{Open, Comma}
+use Rattle.parts.specs.declared.kinds.Quantity.{Quantity}
+use Rattle.tokens.specs.Tokens.{Tok, is_stop}
 use Rattle.grammar.specs.Derivations.{window_tokens, bracket_tokens}
 use Rattle.grammar.specs.Laws.{IsToken}
 use Rattle.grammar.specs.Layers.{MeasureText, a_numeral, a_variable, a_unary, a_binary, a_statistic, PropertyText, a_comparison, a_prefix, a_bracket, tighter, a_link, lead_tokens, link_tokens, change_tokens}
-use Rattle.grammar.specs.Steps.{Rules, Step, plain, bringing, window_steps, lead_steps, link_steps, left_steps, measure_steps, property_steps}
-use Rattle.grammar.specs.Trees.{MeasureTree, Lead, negation, next, skipping, eventually, always, Link, and, or, implies, iff, until, PropertyTree}
+use Rattle.grammar.specs.Steps.{Rules, Step, lead_steps, link_steps, left_steps, measure_steps, property_steps}
+use Rattle.grammar.specs.Trees.{MeasureTree, Lead, Link, PropertyTree}
 use Rattle.grammar.proofs.Spelling.{step_tokens}
 
 joined_tokens : {ts us : List Tok} (xs ys : List Step) → step_tokens xs ≡ ts → step_tokens ys ≡ us → step_tokens (xs ++ ys) ≡ ts ++ us
-joined_tokens xs ys e f = map-append (λ (x : Step). x.tok) xs ys ∙ ap₂ (λ (ts us : List Tok). ts ++ us) e f
+joined_tokens xs ys e f = grind (arith, map-append)
 
 after_token : {ts us : List Tok} (t : Tok) → ts ≡ us → t ∷ ts ≡ t ∷ us
 after_token t e = ap {B = List Tok} (λ ts. t ∷ ts) e
 
 tokens_of_lead : (rules : Rules) (d : ℕ) (l : Lead) → step_tokens (lead_steps rules d l) ≡ lead_tokens l
-tokens_of_lead rules d negation = refl
-tokens_of_lead rules d next = refl
-tokens_of_lead rules d (skipping s k) = refl
-tokens_of_lead rules d (eventually a b) = refl
-tokens_of_lead rules d (always a b) = refl
+tokens_of_lead rules d l = grind arith
 
 tokens_of_link : (rules : Rules) (l : Link) → step_tokens (link_steps rules l) ≡ link_tokens l
-tokens_of_link rules and = refl
-tokens_of_link rules or = refl
-tokens_of_link rules implies = refl
-tokens_of_link rules iff = refl
-tokens_of_link rules (until a b) = refl
+tokens_of_link rules l = grind arith
 
 measure_tokens : {inside : Bool} {ts : List Tok} {m : MeasureTree} (rules : Rules) (d : ℕ) → MeasureText inside ts m → step_tokens (measure_steps rules d m) ≡ ts
 measure_tokens rules d a_numeral = refl
 measure_tokens rules d a_variable = refl
-measure_tokens rules d (a_unary {u} {m} t) = after_token (token.unary u) (after_token (mark Open) (joined_tokens (measure_steps rules (suc d) m) _ (measure_tokens rules (suc d) t) refl))
-measure_tokens rules d (a_binary {b} {m} {n} t u) =
-    let ms = measure_steps rules (suc d) m in
-    let ns = measure_steps rules (suc d) n in
-    after_token (token.binary b) (after_token (mark Open) (joined_tokens (ms ++ (plain (mark Comma) ∷ ns)) _ (joined_tokens ms (plain (mark Comma) ∷ ns) (measure_tokens rules (suc d) t) (after_token (mark Comma) (measure_tokens rules (suc d) u))) refl))
-measure_tokens rules d (a_statistic {s} {a} {b} {m} t) =
-    after_token (token.statistic s) (after_token (mark Open) (joined_tokens (window_steps rules a b ++ measure_steps rules (suc d) m) _ (joined_tokens (window_steps rules a b) (measure_steps rules (suc d) m) refl (measure_tokens rules (suc d) t)) refl))
+measure_tokens rules d (a_unary {u} {m} t) = grind (arith, after_token, joined_tokens, measure_tokens rules (suc d) t)
+measure_tokens rules d (a_binary {b} {m} {n} t u) = grind (arith, after_token, joined_tokens, measure_tokens rules (suc d) t, measure_tokens rules (suc d) u)
+measure_tokens rules d (a_statistic {s} {a} {b} {m} t) = grind (arith, after_token, joined_tokens, measure_tokens rules (suc d) t)
 
-left_tokens : {ts : List Tok} (rules : Rules) (d : ℕ) (changes : Bool) (m : MeasureTree) → MeasureText false ts m → step_tokens (left_steps rules d changes m) ≡ change_tokens changes ts
-left_tokens rules d false m t = measure_tokens rules d t
-left_tokens rules d true m t = after_token change (after_token (mark Open) (joined_tokens (measure_steps rules (suc d) m) _ (measure_tokens rules (suc d) t) refl))
+left_tokens : {ts : List Tok} (rules : Rules) (d : ℕ) (q : Quantity) (m : MeasureTree) → MeasureText false ts m → step_tokens (left_steps rules d q m) ≡ change_tokens q ts
+left_tokens rules d q m t = grind (arith, measure_tokens, after_token, joined_tokens)
 
 pub property_tokens : {level : ℕ} {ts : List Tok} {p : PropertyTree} (rules : Rules) (d : ℕ) → PropertyText level ts p → step_tokens (property_steps rules d p) ≡ ts
-property_tokens rules d (a_comparison {d = changes} {c} {m} {n} t u) = joined_tokens (left_steps rules d changes m) (bringing (comparator c) ∷ measure_steps rules d n) (left_tokens rules d changes m t) (after_token (comparator c) (measure_tokens rules d u))
-property_tokens rules d (a_prefix {l} {p} h t) = joined_tokens (lead_steps rules (suc d) l) (property_steps rules (suc d) p) (tokens_of_lead rules (suc d) l) (property_tokens rules (suc d) t)
-property_tokens rules d (a_bracket {p} t) = after_token (mark Open) (joined_tokens (property_steps rules (suc d) p) _ (property_tokens rules (suc d) t) refl)
+property_tokens rules d (a_comparison {q} {c} {m} {n} t u) = grind (arith, joined_tokens, left_tokens, after_token, measure_tokens)
+property_tokens rules d (a_prefix {l} {p} h t) = grind (arith, joined_tokens, tokens_of_lead, property_tokens rules (suc d) t)
+property_tokens rules d (a_bracket {p} t) = grind (arith, after_token, joined_tokens, property_tokens rules (suc d) t)
 property_tokens rules d (tighter t) = property_tokens rules d t
-property_tokens rules d (a_link {l} {p} {q} e t u) = joined_tokens (property_steps rules d p) (link_steps rules l ++ property_steps rules d q) (property_tokens rules d t) (joined_tokens (link_steps rules l) (property_steps rules d q) (tokens_of_link rules l) (property_tokens rules d u))
+property_tokens rules d (a_link {l} {p} {q} e t u) = grind (arith, joined_tokens, tokens_of_link, property_tokens rules d t, property_tokens rules d u)
 
 token_is : (t : Tok) → is_stop t ≡ false → IsToken t
-token_is t f e = let z : false ≡ true = sym f ∙ ap is_stop e in let y : ◌≡◌ {A = ℕ} 0 1 = cc in omega arith
+token_is t f e = grind arith
 
 -- tokens of which none is the end of the text
 pub data Tokens : List Tok → Type 0 where
@@ -66,39 +52,30 @@ both none k = k
 both (more e h) k = more e (both h k)
 
 bracketed : {ts : List Tok} → Tokens ts → Tokens (bracket_tokens ts)
-bracketed h = more (token_is _ refl) (both h (more (token_is _ refl) none))
+bracketed h = grind (arith, more, token_is, both, none)
 
 window_has_tokens : (a b : ℕ) → Tokens (window_tokens a b)
-window_has_tokens a b = more (token_is _ refl) (more (token_is _ refl) (more (token_is _ refl) (more (token_is _ refl) (more (token_is _ refl) none))))
+window_has_tokens a b = grind (arith, more, token_is, none)
 
 lead_has_tokens : (l : Lead) → Tokens (lead_tokens l)
-lead_has_tokens negation = more (token_is _ refl) none
-lead_has_tokens next = more (token_is _ refl) none
-lead_has_tokens (skipping s k) = more (token_is _ refl) (more (token_is _ refl) (more (token_is _ refl) (more (token_is _ refl) none)))
-lead_has_tokens (eventually a b) = more (token_is _ refl) (window_has_tokens a b)
-lead_has_tokens (always a b) = more (token_is _ refl) (window_has_tokens a b)
+lead_has_tokens l = grind (arith, more, token_is, none, window_has_tokens)
 
 link_has_tokens : (l : Link) → Tokens (link_tokens l)
-link_has_tokens and = more (token_is _ refl) none
-link_has_tokens or = more (token_is _ refl) none
-link_has_tokens implies = more (token_is _ refl) none
-link_has_tokens iff = more (token_is _ refl) none
-link_has_tokens (until a b) = more (token_is _ refl) (window_has_tokens a b)
+link_has_tokens l = grind (arith, more, token_is, none, window_has_tokens)
 
 measure_has_tokens : {inside : Bool} {ts : List Tok} {m : MeasureTree} → MeasureText inside ts m → Tokens ts
 measure_has_tokens a_numeral = more (token_is _ refl) none
 measure_has_tokens a_variable = more (token_is _ refl) none
 measure_has_tokens (a_unary t) = more (token_is _ refl) (bracketed (measure_has_tokens t))
-measure_has_tokens (a_binary t u) = more (token_is _ refl) (bracketed (both (measure_has_tokens t) (more (token_is _ refl) (measure_has_tokens u))))
+measure_has_tokens (a_binary t u) = grind (arith, more, token_is, bracketed, both, measure_has_tokens t, measure_has_tokens u)
 measure_has_tokens (a_statistic {a} {b} t) = more (token_is _ refl) (bracketed (both (window_has_tokens a b) (measure_has_tokens t)))
 
-left_has_tokens : {ts : List Tok} (changes : Bool) → Tokens ts → Tokens (change_tokens changes ts)
-left_has_tokens false h = h
-left_has_tokens true h = more (token_is _ refl) (bracketed h)
+left_has_tokens : {ts : List Tok} (q : Quantity) → Tokens ts → Tokens (change_tokens q ts)
+left_has_tokens q h = grind (arith, more, token_is, bracketed)
 
 pub property_has_tokens : {level : ℕ} {ts : List Tok} {p : PropertyTree} → PropertyText level ts p → Tokens ts
-property_has_tokens (a_comparison {d} t u) = both (left_has_tokens d (measure_has_tokens t)) (more (token_is _ refl) (measure_has_tokens u))
+property_has_tokens (a_comparison {q} t u) = grind (arith, both, left_has_tokens, measure_has_tokens, more, token_is)
 property_has_tokens (a_prefix {l} h t) = both (lead_has_tokens l) (property_has_tokens t)
 property_has_tokens (a_bracket t) = bracketed (property_has_tokens t)
 property_has_tokens (tighter t) = property_has_tokens t
-property_has_tokens (a_link {l} e t u) = both (property_has_tokens t) (both (link_has_tokens l) (property_has_tokens u))
+property_has_tokens (a_link {l} e t u) = grind (arith, both, link_has_tokens, property_has_tokens t, property_has_tokens u)

@@ -37,7 +37,7 @@ pub deeper : (d left : ℕ) {most : ℕ} → d + suc left ≡ most → suc d + l
 deeper d left deep = omega arith
 
 pub none_left : ltb 0 0 ≡ true → ⊥
-none_left e = let z : ◌≡◌ {A = ℕ} 0 1 = cc in omega arith
+none_left e = cc
 
 module _ {rules : Rules} where
   placed_here : (n : ℕ) (s : List Spot) → Placed rules n s [] n s 0 (first s).at

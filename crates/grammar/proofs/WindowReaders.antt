@@ -1,5 +1,5 @@
 -- The readers of windows, of prefixes behind their sign and of connectives behind theirs are right.
-use Rattle.std.proofs.Common.{◌≡◌, ℕ, Bool, true, false, cond, List, [], ◌∷◌, sym, refl, subst}
+use Rattle.std.proofs.Common.{◌≡◌, ℕ, Bool, true, false, cond, List, [], ◌∷◌, sym, refl, subst, arith}
 use Rattle.tokens.specs.Tokens.{Tok, mark, prefix, connective}
 use Rattle.tokens.specs.Tokens as token
 use Rattle.tokens.specs.declared.words.ConnectiveSign.{ConnectiveSign}
@@ -42,18 +42,10 @@ leads rules x = record { steps = lead_rest rules; has = Led x }
 
 pub led_steps : {x : PrefixSign} {l : Lead} (rules : Rules) (d : ℕ) → Led x l → lead_steps rules d l ≡ leading d (prefix x) ∷ lead_rest rules l
 unfolding lead_rest
-led_steps rules d led_not = refl
-led_steps rules d led_next = refl
-led_steps rules d (led_skipping h) = refl
-led_steps rules d led_eventually = refl
-led_steps rules d led_always = refl
+led_steps rules d h = grind arith
 
 pub led_text : {x : PrefixSign} {l : Lead} → Led x l → LeadText l
-led_text led_not = tt
-led_text led_next = tt
-led_text (led_skipping h) = h
-led_text led_eventually = tt
-led_text led_always = tt
+led_text h = grind arith
 
 pub some_lead : (x : PrefixSign) → (l : Lead) × Led x l
 some_lead prefixes.Not = (negation, led_not)
@@ -62,11 +54,7 @@ some_lead prefixes.Eventually = (eventually 0 0, led_eventually)
 some_lead prefixes.Always = (always 0 0, led_always)
 
 pub led_by : (l : Lead) → LeadText l → (x : PrefixSign) × Led x l
-led_by negation h = (prefixes.Not, led_not)
-led_by next h = (prefixes.Next, led_next)
-led_by (skipping s k) h = (prefixes.Next, led_skipping h)
-led_by (eventually a b) h = (prefixes.Eventually, led_eventually)
-led_by (always a b) h = (prefixes.Always, led_always)
+led_by l h = grind (arith, led_not, led_next, led_skipping, led_eventually, led_always)
 
 -- the connectives with this sign
 pub data Linked : ConnectiveSign → Link → Type 0 where
@@ -89,18 +77,10 @@ linkings rules x = record { steps = link_rest rules; has = Linked x }
 
 pub linked_steps : {x : ConnectiveSign} {l : Link} (rules : Rules) → Linked x l → link_steps rules l ≡ bringing (connective x) ∷ link_rest rules l
 unfolding link_rest
-linked_steps rules linked_and = refl
-linked_steps rules linked_or = refl
-linked_steps rules linked_implies = refl
-linked_steps rules linked_iff = refl
-linked_steps rules linked_until = refl
+linked_steps rules h = grind arith
 
 pub linked_level : {x : ConnectiveSign} {l : Link} → Linked x l → link_level l ≡ sign_level x
-linked_level linked_and = refl
-linked_level linked_or = refl
-linked_level linked_implies = refl
-linked_level linked_iff = refl
-linked_level linked_until = refl
+linked_level h = grind arith
 
 pub some_link : (x : ConnectiveSign) → (l : Link) × Linked x l
 some_link connectives.And = (and, linked_and)

@@ -2,6 +2,8 @@
 use Rattle.std.specs.Prelude.{◌≡◌, ℕ, suc, Bool, true, false, List, [], ◌∷◌, ◌++◌}
 use Rattle.parts.specs.declared.kinds.Binary.{Binary}
 use Rattle.parts.specs.declared.kinds.Comparator.{Comparator}
+use Rattle.parts.specs.declared.kinds.Quantity.{Quantity}
+use Rattle.parts.specs.declared.kinds.Quantity.TheVariants.{Value, Change}
 use Rattle.parts.specs.declared.kinds.Statistic.{Statistic}
 use Rattle.parts.specs.declared.kinds.Unary.{Unary}
 use Rattle.tokens.specs.Tokens.{Tok, mark, change, comparator, prefix, connective}
@@ -58,13 +60,13 @@ link_level (until a b) = 5
 abbrev pub loosest : ℕ
 loosest = 5
 
-abbrev pub change_tokens : Bool → List Tok → List Tok
-change_tokens false ms = ms
-change_tokens true ms = change ∷ bracket_tokens ms
+abbrev pub change_tokens : Quantity → List Tok → List Tok
+change_tokens Value ms = ms
+change_tokens Change ms = change ∷ bracket_tokens ms
 
 -- Level 0 has what a prefix can stand before; each further level has the connective of that level and what binds tighter.
 pub data PropertyText : ℕ → List Tok → PropertyTree → Type 0 where
-  a_comparison : {d : Bool} {c : Comparator} {ms ns : List Tok} {m n : MeasureTree} → MeasureText false ms m → MeasureText false ns n → PropertyText 0 (change_tokens d ms ++ (comparator c ∷ ns)) (compare d c m n)
+  a_comparison : {q : Quantity} {c : Comparator} {ms ns : List Tok} {m n : MeasureTree} → MeasureText false ms m → MeasureText false ns n → PropertyText 0 (change_tokens q ms ++ (comparator c ∷ ns)) (compare q c m n)
   a_prefix : {l : Lead} {ps : List Tok} {p : PropertyTree} → LeadText l → PropertyText 0 ps p → PropertyText 0 (lead_tokens l ++ ps) (prefixed l p)
   a_bracket : {ps : List Tok} {p : PropertyTree} → PropertyText loosest ps p → PropertyText 0 (bracket_tokens ps) (bracketed p)
   tighter : {level : ℕ} {ps : List Tok} {p : PropertyTree} → PropertyText level ps p → PropertyText (suc level) ps p

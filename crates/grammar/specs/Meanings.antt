@@ -49,7 +49,7 @@ connective_of (until a b) = connective.Until (window a b)
 
 -- brackets only group
 abbrev pub property_of : Columns → PropertyTree → Property
-property_of columns (compare d c m n) = formula.compare c d (measure_of columns m) (measure_of columns n)
+property_of columns (compare q c m n) = formula.compare c q (measure_of columns m) (measure_of columns n)
 property_of columns (prefixed l p) = formula.prefixed (prefix_of l) (property_of columns p)
 property_of columns (joined l p q) = formula.joined (connective_of l) (property_of columns p) (property_of columns q)
 property_of columns (bracketed p) = property_of columns p

@@ -1,6 +1,8 @@
 -- How a text is read: token by token from the left, up to the first token that cannot follow or breaks a rule. Assumes nothing.
 use Rattle.std.specs.Prelude.{ℕ, zero, suc, pred, Bool, true, false, cond, ◌&&◌, List, [], ◌∷◌, length, Some, None, Option, ◌==◌, nat_le, nat_lt}
 use Rattle.parts.specs.declared.kinds.Comparator.{Comparator}
+use Rattle.parts.specs.declared.kinds.Quantity.{Quantity}
+use Rattle.parts.specs.declared.kinds.Quantity.TheVariants.{Value, Change}
 use Rattle.tokens.specs.Tokens.{Tok, Spot, is_stop, mark, change, comparator, unary, binary, statistic, prefix, connective, numeral, variable, stray, stop}
 use Rattle.tokens.specs.declared.words.ConnectiveSign.{ConnectiveSign}
 use Rattle.tokens.specs.declared.words.ConnectiveSign.TheVariants as connectives
@@ -188,24 +190,24 @@ comparator_of stray = None
 comparator_of stop = None
 
 -- a comparison from its comparator on
-abbrev pub compared_by : Rules → ℕ → Bool → MeasureTree → Option Comparator → Reader PropertyTree
-compared_by rules left changes l None n s = refuse 2 s
-compared_by rules left changes l (Some c) n s =
+abbrev pub compared_by : Rules → ℕ → Quantity → MeasureTree → Option Comparator → Reader PropertyTree
+compared_by rules left q l None n s = refuse 2 s
+compared_by rules left q l (Some c) n s =
     and_then (bring rules n s) (λ _ n s.
-    and_then (measure rules left false n (rest s)) (λ r n s. got (tree.compare changes c l r) n s))
+    and_then (measure rules left false n (rest s)) (λ r n s. got (tree.compare q c l r) n s))
 
-abbrev pub compared : Rules → ℕ → Bool → MeasureTree → Reader PropertyTree
-compared rules left changes l n s = compared_by rules left changes l (comparator_of (first s).tok) n s
+abbrev pub compared : Rules → ℕ → Quantity → MeasureTree → Reader PropertyTree
+compared rules left q l n s = compared_by rules left q l (comparator_of (first s).tok) n s
 
 abbrev pub comparison : Rules → ℕ → Reader PropertyTree
-comparison rules left n s = and_then (measure rules left false n s) (compared rules left false)
+comparison rules left n s = and_then (measure rules left false n s) (compared rules left Value)
 
 -- from d on
 abbrev pub change_comparison : Rules → ℕ → Reader PropertyTree
 change_comparison rules left n s =
     and_then (opening left n (rest s)) (λ _ n s.
     and_then (measure rules (pred left) false n s) (λ m n s.
-    and_then (punctuation Close n s) (λ _ n s. compared rules left true m n s)))
+    and_then (punctuation Close n s) (λ _ n s. compared rules left Change m n s)))
 
 abbrev pub index_by : Rules → Option (Sign × ℕ) → Reader (Sign × ℕ)
 index_by rules None n s = refuse 2 s

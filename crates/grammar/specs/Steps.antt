@@ -1,5 +1,7 @@
 -- The tokens of a parse tree from the left, each with what it brings and which rule it breaks. Assumes nothing.
 use Rattle.std.specs.Prelude.{ℕ, suc, Bool, true, false, cond, List, [], ◌∷◌, ◌++◌, length, Some, None, Option}
+use Rattle.parts.specs.declared.kinds.Quantity.{Quantity}
+use Rattle.parts.specs.declared.kinds.Quantity.TheVariants.{Value, Change}
 use Rattle.tokens.specs.Tokens.{Tok, mark, change, comparator, prefix, connective}
 use Rattle.tokens.specs.Tokens as token
 use Rattle.tokens.specs.declared.words.ConnectiveSign.TheVariants as connectives
@@ -101,12 +103,12 @@ link_steps rules iff = bringing (connective connectives.Iff) ∷ []
 link_steps rules (until a b) = bringing (connective connectives.Until) ∷ window_steps rules a b
 
 -- the left side of a comparison, in d( ) or not
-abbrev pub left_steps : Rules → ℕ → Bool → MeasureTree → List Step
-left_steps rules d false m = measure_steps rules d m
-left_steps rules d true m = plain change ∷ nesting (suc d) (mark Open) ∷ (measure_steps rules (suc d) m ++ (plain (mark Close) ∷ []))
+abbrev pub left_steps : Rules → ℕ → Quantity → MeasureTree → List Step
+left_steps rules d Value m = measure_steps rules d m
+left_steps rules d Change m = plain change ∷ nesting (suc d) (mark Open) ∷ (measure_steps rules (suc d) m ++ (plain (mark Close) ∷ []))
 
 abbrev pub property_steps : Rules → ℕ → PropertyTree → List Step
-property_steps rules d (compare changes c m n) = left_steps rules d changes m ++ (bringing (comparator c) ∷ measure_steps rules d n)
+property_steps rules d (compare q c m n) = left_steps rules d q m ++ (bringing (comparator c) ∷ measure_steps rules d n)
 property_steps rules d (prefixed l p) = lead_steps rules (suc d) l ++ property_steps rules (suc d) p
 property_steps rules d (joined l p q) = property_steps rules d p ++ (link_steps rules l ++ property_steps rules d q)
 property_steps rules d (bracketed p) = nesting (suc d) (mark Open) ∷ (property_steps rules (suc d) p ++ (plain (mark Close) ∷ []))

@@ -1,7 +1,8 @@
 -- Parse trees: a criterion as it is written, with its brackets, signs and names. Assumes nothing.
-use Rattle.std.specs.Prelude.{ℕ, Bool, List}
+use Rattle.std.specs.Prelude.{ℕ, List}
 use Rattle.parts.specs.declared.kinds.Binary.{Binary}
 use Rattle.parts.specs.declared.kinds.Comparator.{Comparator}
+use Rattle.parts.specs.declared.kinds.Quantity.{Quantity}
 use Rattle.parts.specs.declared.kinds.Statistic.{Statistic}
 use Rattle.parts.specs.declared.kinds.Unary.{Unary}
 use Rattle.tokens.specs.declared.words.Sign.{Sign}
@@ -31,8 +32,8 @@ pub data Link : Type 0 where
   until : ℕ → ℕ → Link
 
 pub data PropertyTree : Type 0 where
-  -- `true` where the left measure stands in d( )
-  compare : Bool → Comparator → MeasureTree → MeasureTree → PropertyTree
+  -- the left measure stands in d( ) where its change is taken
+  compare : Quantity → Comparator → MeasureTree → MeasureTree → PropertyTree
   prefixed : Lead → PropertyTree → PropertyTree
   joined : Link → PropertyTree → PropertyTree → PropertyTree
   bracketed : PropertyTree → PropertyTree

@@ -1,11 +1,12 @@
 -- What the node at each index is, told from its part and the nodes of its operands, which stand before it. Assumes nothing.
-use Rattle.std.proofs.Common.{◌≡◌, ℕ, zero, suc, ◌+◌, ◌-◌, ◌<◌, Bool, true, false, cond, List, [], ◌∷◌, ◌++◌, length, Some, None, Option, sym, refl, ap, ◌∙◌, append_assoc, append-nil, add-zero, zero-add, arith}
-use Rattle.std.specs.Option.{option_map, option_zip}
+use Rattle.std.proofs.Common.{◌≡◌, ℕ, zero, suc, ◌+◌, ◌-◌, ◌<◌, true, List, [], ◌∷◌, ◌++◌, length, Some, refl, ap, ◌∙◌, append_assoc, append-nil, add-zero, zero-add, arith}
 use Rattle.std.specs.List.{slice_get}
+use Rattle.std.proofs.lemmas.Grind.{common_steps}
 use Rattle.std.proofs.lemmas.List.{length_push}
+use Rattle.std.proofs.lemmas.Option.{get_or_from_slice_get, slice_get-get_or, slice_get_read, slice_get_within}
 use Rattle.std.proofs.lemmas.Bool.{eqb-true}
 use Rattle.parts.specs.Formulas.{Measure, numeral, variable, unary, binary, over, Property, compare, prefixed, joined}
-use Rattle.parts.specs.Order.{Node, measure, property, node_size, as_measure, as_property, last_node, size_of, adjoins, measures_at, properties_at, node, nodes_behind, nodes}
+use Rattle.parts.specs.Order.{Node, measure, property, node_size, last_node, size_of, adjoins, node, nodes_behind, nodes}
 use Rattle.parts.specs.declared.kinds.Part.{Part}
 use Rattle.parts.specs.declared.kinds.Part.TheVariants.{Numeral, Variable, Unary, Binary, Over, Compare, Prefix, Connective}
 
@@ -29,100 +30,39 @@ Meant ns i (Variable v) = slice_get ns i ≡ Some (measure (variable v))
 Meant ns i (Unary u) = (m : Measure) × OneOperand ns i (measure m) (measure (unary u m))
 Meant ns i (Binary b left) = (m : Measure) × (n : Measure) × TwoOperands ns i left (measure m) (measure n) (measure (binary b m n))
 Meant ns i (Over s w) = (m : Measure) × OneOperand ns i (measure m) (measure (over s w m))
-Meant ns i (Compare c d left) = (m : Measure) × (n : Measure) × TwoOperands ns i left (measure m) (measure n) (property (compare c d m n))
+Meant ns i (Compare c q left) = (m : Measure) × (n : Measure) × TwoOperands ns i left (measure m) (measure n) (property (compare c q m n))
 Meant ns i (Prefix x) = (p : Property) × OneOperand ns i (property p) (property (prefixed x p))
 Meant ns i (Connective c left) = (p : Property) × (q : Property) × TwoOperands ns i left (property p) (property q) (property (joined c p q))
 
 pub nth_at : {X : Type 0} (xs ys : List X) (x : X) → slice_get (xs ++ (x ∷ ys)) (length xs) ≡ Some x
-nth_at [] ys x = refl
-nth_at (y ∷ xs) ys x = nth_at xs ys x
+nth_at xs ys x = slice_get_read (xs ++ (x ∷ ys)) _ (length xs) x refl (grind (arith, common_steps)) (grind (arith, common_steps))
 
 pub nth_front : {X : Type 0} (xs ys : List X) (i : ℕ) (x : X) → slice_get xs i ≡ Some x → slice_get (xs ++ ys) i ≡ Some x
-nth_front [] ys i x e = let z : ◌≡◌ {A = ℕ} 0 1 = cc in absurd (omega arith)
-nth_front (y ∷ xs) ys zero x e = e
-nth_front (y ∷ xs) ys (suc i) x e = nth_front xs ys i x e
-
-pub nth_within : {X : Type 0} (xs : List X) (i : ℕ) (x : X) → slice_get xs i ≡ Some x → i < length xs
-nth_within [] i x e = let z : ◌≡◌ {A = ℕ} 0 1 = cc in absurd (omega arith)
-nth_within (y ∷ xs) zero x e = omega arith
-nth_within (y ∷ xs) (suc i) x e = let h = nth_within xs i x e in omega arith
-
-mapped_some : {X Y : Type 0} {f : X → Y} (o : Option X) {y : Y} → option_map f o ≡ Some y → (x : X) × (o ≡ Some x) × (y ≡ f x)
-mapped_some None e = let z : ◌≡◌ {A = ℕ} 0 1 = cc in absurd (omega arith)
-mapped_some (Some x) e = (x, refl, cc)
-
-as_measure_some : (o : Option Node) {m : Measure} → as_measure o ≡ Some m → o ≡ Some (measure m)
-as_measure_some None e = cc
-as_measure_some (Some (measure m)) e = cc
-as_measure_some (Some (property p)) e = cc
-
-pub as_property_some : (o : Option Node) {p : Property} → as_property o ≡ Some p → o ≡ Some (property p)
-as_property_some None e = cc
-as_property_some (Some (measure m)) e = cc
-as_property_some (Some (property p)) e = cc
-
-both_some : {X Y : Type 0} (t : Bool) (a : Option X) (b : Option Y) {o : X × Y} → cond t (option_zip a b) None ≡ Some o → (t ≡ true) × (a ≡ Some o.0) × (b ≡ Some o.1)
-both_some false a b e = (cc, cc, cc)
-both_some true None b e = (cc, cc, cc)
-both_some true (Some x) None e = (cc, cc, cc)
-both_some true (Some x) (Some y) e = (cc, cc, cc)
+nth_front xs ys i x e = grind (arith, common_steps, slice_get_within xs i x e, get_or_from_slice_get xs i x x e, slice_get-get_or (xs ++ ys) i x)
 
 -- a node behind those of the parts before it
 module _ (ns more : List Node) (x : Node) where
   one_here : (y : Node) → last_node ns ≡ Some y → OneOperand (ns ++ (x ∷ more)) (length ns) y x
   one_here y e =
-      let within = nth_within ns (length ns - 1) y e in
+      let within = slice_get_within ns (length ns - 1) y e in
       record { below = omega arith; operand = nth_front ns (x ∷ more) (length ns - 1) y e; here = nth_at ns more x }
 
   two_here : (left : ℕ) (y z : Node) → adjoins ns left ≡ true → slice_get ns left ≡ Some y → last_node ns ≡ Some z → TwoOperands (ns ++ (x ∷ more)) (length ns) left y z x
   two_here left y z t e f =
       record {
-        below = nth_within ns left y e;
+        below = slice_get_within ns left y e;
         operand = nth_front ns (x ∷ more) left y e;
         last_operand = nth_front ns (x ∷ more) (length ns - 1) z f;
-        adjoin = sym (ap (λ o. left + suc (size_of o)) f) ∙ eqb-true (left + suc (size_of (last_node ns))) (length ns) t;
+        adjoin = grind (arith, eqb-true (left + suc (size_of (last_node ns))) (length ns) t);
         here = nth_at ns more x;
       }
 
-  measures_here : (left : ℕ) (o : Measure × Measure) → measures_at ns left ≡ Some o → TwoOperands (ns ++ (x ∷ more)) (length ns) left (measure o.0) (measure o.1) x
-  measures_here left o e =
-      let b = both_some (adjoins ns left) (as_measure (slice_get ns left)) (as_measure (last_node ns)) e in
-      two_here left (measure o.0) (measure o.1) b.0 (as_measure_some (slice_get ns left) b.1) (as_measure_some (last_node ns) b.2)
-
-  properties_here : (left : ℕ) (o : Property × Property) → properties_at ns left ≡ Some o → TwoOperands (ns ++ (x ∷ more)) (length ns) left (property o.0) (property o.1) x
-  properties_here left o e =
-      let b = both_some (adjoins ns left) (as_property (slice_get ns left)) (as_property (last_node ns)) e in
-      two_here left (property o.0) (property o.1) b.0 (as_property_some (slice_get ns left) b.1) (as_property_some (last_node ns) b.2)
-
   meant_here : (part : Part) → node ns part ≡ Some x → Meant (ns ++ (x ∷ more)) (length ns) part
-  meant_here (Numeral n) e = nth_at ns more x ∙ sym e
-  meant_here (Variable v) e = nth_at ns more x ∙ sym e
-  meant_here (Unary u) e =
-      let o = mapped_some (as_measure (last_node ns)) e in
-      (o.0, rw (← o.2) (one_here (measure o.0) (as_measure_some (last_node ns) o.1)))
-  meant_here (Binary b left) e =
-      let o = mapped_some (measures_at ns left) e in
-      (o.0.0, o.0.1, rw (← o.2) (measures_here left o.0 o.1))
-  meant_here (Over s w) e =
-      let o = mapped_some (as_measure (last_node ns)) e in
-      (o.0, rw (← o.2) (one_here (measure o.0) (as_measure_some (last_node ns) o.1)))
-  meant_here (Compare c d left) e =
-      let o = mapped_some (measures_at ns left) e in
-      (o.0.0, o.0.1, rw (← o.2) (measures_here left o.0 o.1))
-  meant_here (Prefix y) e =
-      let o = mapped_some (as_property (last_node ns)) e in
-      (o.0, rw (← o.2) (one_here (property o.0) (as_property_some (last_node ns) o.1)))
-  meant_here (Connective c left) e =
-      let o = mapped_some (properties_at ns left) e in
-      (o.0.0, o.0.1, rw (← o.2) (properties_here left o.0 o.1))
+  meant_here part e = grind (arith, nth_at, one_here, two_here)
 
 -- the first of some parts has a node, and the other parts have the nodes behind it
 pub first_node : (ns : List Node) (p : Part) (ps : List Part) (all : List Node) → nodes_behind ns (p ∷ ps) ≡ Some all → (x : Node) × (node ns p ≡ Some x) × (nodes_behind (ns ++ (x ∷ [])) ps ≡ Some all)
-first_node ns p ps all e = go (node ns p) refl e
-  where
-    go : (o : Option Node) → node ns p ≡ o → elim o [ None ↦ None | Some x ↦ nodes_behind (ns ++ (x ∷ [])) ps ] ≡ Some all → (x : Node) × (node ns p ≡ Some x) × (nodes_behind (ns ++ (x ∷ [])) ps ≡ Some all)
-    go None h e = let z : ◌≡◌ {A = ℕ} 0 1 = cc in absurd (omega arith)
-    go (Some x) h e = (x, h, e)
+first_node ns p ps all e = grind arith
 
 -- the nodes before stay, and each part brings one
 pub nodes_more : (ps : List Part) (ns all : List Node) → nodes_behind ns ps ≡ Some all → (more : List Node) × (all ≡ ns ++ more) × (length more ≡ length ps)
@@ -133,7 +73,7 @@ nodes_more (p ∷ ps) ns all e =
     (f.0 ∷ h.0, h.1 ∙ append_assoc ns (f.0 ∷ []) h.0, ap suc h.2)
 
 meant_behind : (ps : List Part) (ns all : List Node) (i : ℕ) (part : Part) → nodes_behind ns ps ≡ Some all → slice_get ps i ≡ Some part → Meant all (length ns + i) part
-meant_behind [] ns all i part e at = let z : ◌≡◌ {A = ℕ} 0 1 = cc in absurd (omega arith)
+meant_behind [] ns all i part e at = absurd (cc)
 meant_behind (p ∷ ps) ns all zero part e at =
     let f = first_node ns p ps all e in
     let h = nodes_more ps (ns ++ (f.0 ∷ [])) all f.2 in
@@ -148,4 +88,4 @@ pub meant : (ps : List Part) (ns : List Node) (i : ℕ) (part : Part) → nodes 
 meant ps ns i part e at = rw (← zero-add i) (meant_behind ps [] ns i part e at)
 
 pub as_many_nodes : (ps : List Part) (ns : List Node) → nodes ps ≡ Some ns → length ns ≡ length ps
-as_many_nodes ps ns e = let h = nodes_more ps [] ns e in ap length h.1 ∙ h.2
+as_many_nodes ps ns e = grind (arith, nodes_more)

@@ -20,7 +20,7 @@ measure_nodes (binary b m n) = (measure_nodes m ++ measure_nodes n) ++ (measure 
 measure_nodes (over s w m) = measure_nodes m ++ (measure (over s w m) ∷ [])
 
 abbrev pub property_nodes : Property → List Node
-property_nodes (compare c d m n) = (measure_nodes m ++ measure_nodes n) ++ (property (compare c d m n) ∷ [])
+property_nodes (compare c q m n) = (measure_nodes m ++ measure_nodes n) ++ (property (compare c q m n) ∷ [])
 property_nodes (prefixed x p) = property_nodes p ++ (property (prefixed x p) ∷ [])
 property_nodes (joined c p q) = (property_nodes p ++ property_nodes q) ++ (property (joined c p q) ∷ [])
 
@@ -35,25 +35,24 @@ ends (measure (variable v)) = ([], refl)
 ends (measure (unary u m)) = (measure_nodes m, refl)
 ends (measure (binary b m n)) = (measure_nodes m ++ measure_nodes n, refl)
 ends (measure (over s w m)) = (measure_nodes m, refl)
-ends (property (compare c d m n)) = (measure_nodes m ++ measure_nodes n, refl)
+ends (property (compare c q m n)) = (measure_nodes m ++ measure_nodes n, refl)
 ends (property (prefixed x p)) = (property_nodes p, refl)
 ends (property (joined c p q)) = (property_nodes p ++ property_nodes q, refl)
 
 length_measure_nodes : (m : Measure) → length (measure_nodes m) ≡ measure_size m
 length_measure_nodes (numeral n) = refl
 length_measure_nodes (variable v) = refl
-length_measure_nodes (unary u m) = simp length-append (let h = length_measure_nodes m in omega arith)
-length_measure_nodes (binary b m n) = simp length-append (let h = length_measure_nodes m in let k = length_measure_nodes n in omega arith)
-length_measure_nodes (over s w m) = simp length-append (let h = length_measure_nodes m in omega arith)
+length_measure_nodes (unary u m) = grind (arith, length-append, length_measure_nodes m)
+length_measure_nodes (binary b m n) = grind (arith, length-append, length_measure_nodes m, length_measure_nodes n)
+length_measure_nodes (over s w m) = grind (arith, length-append, length_measure_nodes m)
 
 length_property_nodes : (p : Property) → length (property_nodes p) ≡ property_size p
-length_property_nodes (compare c d m n) = simp length-append (let h = length_measure_nodes m in let k = length_measure_nodes n in omega arith)
-length_property_nodes (prefixed x p) = simp length-append (let h = length_property_nodes p in omega arith)
-length_property_nodes (joined c p q) = simp length-append (let h = length_property_nodes p in let k = length_property_nodes q in omega arith)
+length_property_nodes (compare c q m n) = grind (arith, length-append, length_measure_nodes)
+length_property_nodes (prefixed x p) = grind (arith, length-append, length_property_nodes p)
+length_property_nodes (joined c p q) = grind (arith, length-append, length_property_nodes p, length_property_nodes q)
 
 length_node_nodes : (x : Node) → length (node_nodes x) ≡ node_size x
-length_node_nodes (measure m) = length_measure_nodes m
-length_node_nodes (property p) = length_property_nodes p
+length_node_nodes x = grind (arith, length_measure_nodes, length_property_nodes)
 
 last_is : (ns : List Node) (x : Node) → last_node (ns ++ node_nodes x) ≡ Some x
 last_is ns x =
@@ -119,15 +118,12 @@ measure_yields (binary b m n) start =
 measure_yields (over s w m) start = part_yields (part.Over s w) _ (measure_yields m start) (λ ns e. rw (last_is ns (measure m)))
 
 property_yields : (p : Property) (start : ℕ) → Yields start (property_parts start p) (property_nodes p)
-property_yields (compare c d m n) start =
-    part_yields (part.Compare c d (start + measure_size m - 1)) _
+property_yields (compare c q m n) start =
+    part_yields (part.Compare c q (start + measure_size m - 1)) _
     (both_yield (length_measure_nodes m) (measure_yields m start) (measure_yields n (start + measure_size m)))
-    (λ ns e. of_measures ns e (part.Compare c d) (λ m n. property (compare c d m n)) m n (λ ks left. refl))
+    (λ ns e. of_measures ns e (part.Compare c q) (λ m n. property (compare c q m n)) m n (λ ks left. refl))
 property_yields (prefixed x p) start = part_yields (part.Prefix x) _ (property_yields p start) (λ ns e. rw (last_is ns (property p)))
-property_yields (joined c p q) start =
-    part_yields (part.Connective c (start + property_size p - 1)) _
-    (both_yield (length_property_nodes p) (property_yields p start) (property_yields q (start + property_size p)))
-    (λ ns e. of_properties ns e c p q)
+property_yields (joined c p q) start = grind (arith, part_yields, both_yield, length_property_nodes, of_properties, property_yields p start, property_yields q (start + property_size p))
 
 pub nodes_parts_of : (p : Property) → nodes (parts_of p) ≡ Some (property_nodes p)
 nodes_parts_of p = ap nodes (sym (append-nil (parts_of p))) ∙ (property_yields p 0).nodes_behind_parts [] [] refl

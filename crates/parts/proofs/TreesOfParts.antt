@@ -1,44 +1,35 @@
 -- Some parts are a tree only if they are its parts, in order. Assumes nothing.
-use Rattle.std.proofs.Common.{◌≡◌, ℕ, zero, suc, ◌+◌, ◌-◌, ◌<◌, Bool, true, false, cond, eqb, List, [], ◌∷◌, ◌++◌, length, take, Some, None, Option, sym, refl, ap, ◌∙◌, append_assoc, arith}
-use Rattle.std.specs.Option.{option_flatten, option_map}
+use Rattle.std.proofs.Common.{◌≡◌, ℕ, zero, suc, ◌+◌, ◌-◌, ◌<◌, List, [], ◌∷◌, ◌++◌, length, take, Some, sym, refl, ap, ◌∙◌, append_assoc, arith}
 use Rattle.std.specs.List.{slice_get}
-use Rattle.std.proofs.lemmas.List.{length-append, length-take-le, nil_from_length, take_all, take_at, take-take}
-use Rattle.std.proofs.lemmas.Bool.{eqb-true}
+use Rattle.std.proofs.lemmas.List.{length-append, length-take-le, nil_from_length, take_all, take_at, take_more, take-take}
+use Rattle.std.proofs.lemmas.Option.{get_or_from_slice_get, slice_get-get_or, slice_get_within}
 use Rattle.parts.specs.Formulas.{Measure, numeral, variable, unary, binary, over, Property, compare, prefixed, joined}
-use Rattle.parts.specs.Order.{measure_size, property_size, measure_parts, property_parts, parts_of, Node, measure, property, node_size, as_property, last_node, size_of, nodes, root_of, tree_of}
+use Rattle.parts.specs.Order.{measure_size, property_size, measure_parts, property_parts, parts_of, Node, measure, property, node_size, last_node, nodes, tree_of}
 use Rattle.parts.specs.declared.kinds.Part.{Part}
 use Rattle.parts.specs.declared.kinds.Part.TheVariants.{Numeral, Variable, Unary, Binary, Over, Compare, Prefix, Connective}
-use Rattle.parts.proofs.NodesOfParts.{OneOperand, TwoOperands, Meant, as_many_nodes, as_property_some, meant, nth_within}
+use Rattle.parts.proofs.NodesOfParts.{OneOperand, TwoOperands, Meant, as_many_nodes, meant}
 
 length_measure_parts : (m : Measure) (start : ℕ) → length (measure_parts start m) ≡ measure_size m
 length_measure_parts (numeral n) start = refl
 length_measure_parts (variable v) start = refl
-length_measure_parts (unary u m) start = simp length-append (let h = length_measure_parts m start in omega arith)
-length_measure_parts (binary b m n) start = simp length-append (let h = length_measure_parts m start in let k = length_measure_parts n (start + measure_size m) in omega arith)
-length_measure_parts (over s w m) start = simp length-append (let h = length_measure_parts m start in omega arith)
+length_measure_parts (unary u m) start = grind (arith, length-append, length_measure_parts m start)
+length_measure_parts (binary b m n) start = grind (arith, length-append, length_measure_parts m start, length_measure_parts n (start + measure_size m))
+length_measure_parts (over s w m) start = grind (arith, length-append, length_measure_parts m start)
 
 pub length_property_parts : (p : Property) (start : ℕ) → length (property_parts start p) ≡ property_size p
-length_property_parts (compare c d m n) start = simp length-append (let h = length_measure_parts m start in let k = length_measure_parts n (start + measure_size m) in omega arith)
-length_property_parts (prefixed x p) start = simp length-append (let h = length_property_parts p start in omega arith)
-length_property_parts (joined c p q) start = simp length-append (let h = length_property_parts p start in let k = length_property_parts q (start + property_size p) in omega arith)
+length_property_parts (compare c q m n) start = grind (arith, length-append, length_measure_parts)
+length_property_parts (prefixed x p) start = grind (arith, length-append, length_property_parts p start)
+length_property_parts (joined c p q) start = grind (arith, length-append, length_property_parts p start, length_property_parts q (start + property_size p))
 
 abbrev node_parts : ℕ → Node → List Part
 node_parts start (measure m) = measure_parts start m
 node_parts start (property p) = property_parts start p
 
 length_node_parts : (x : Node) (start : ℕ) → length (node_parts start x) ≡ node_size x
-length_node_parts (measure m) start = length_measure_parts m start
-length_node_parts (property p) start = length_property_parts p start
-
-some_nth : {X : Type 0} (xs : List X) (i : ℕ) → i < length xs → (x : X) × (slice_get xs i ≡ Some x)
-some_nth [] i h = absurd (omega arith)
-some_nth (x ∷ xs) zero h = (x, refl)
-some_nth (x ∷ xs) (suc i) h = some_nth xs i (omega arith)
+length_node_parts x start = grind (arith, length_measure_parts, length_property_parts)
 
 take_nth : {X : Type 0} (xs : List X) (i : ℕ) (x : X) → slice_get xs i ≡ Some x → take (suc i) xs ≡ take i xs ++ (x ∷ [])
-take_nth [] i x e = let z : ◌≡◌ {A = ℕ} 0 1 = cc in absurd (omega arith)
-take_nth (y ∷ xs) zero x e = cc
-take_nth (y ∷ xs) (suc i) x e = ap (λ ys. y ∷ ys) (take_nth xs i x e)
+take_nth xs i x e = grind (arith, take_more xs i x (slice_get_within xs i x e), get_or_from_slice_get xs i x x e)
 
 -- the parts up to index i end with those of x
 abbrev Ends : List Part → ℕ → Node → Type 0
@@ -49,14 +40,12 @@ module _ (ps : List Part) (i : ℕ) where
   ends_leaf part x is at = (take i ps, rw (is, take_nth ps i part at))
 
   ends_one : (part : Part) (y x : Node) → ((s : ℕ) → node_parts s x ≡ node_parts s y ++ (part ∷ [])) → 0 < i → slice_get ps i ≡ Some part → Ends ps (i - 1) y → Ends ps i x
-  ends_one part y x is some at h =
-      let here : suc (i - 1) ≡ i = omega arith in
-      (h.0, rw (is, take_nth ps i part at, ← append_assoc h.0 (node_parts (length h.0) y) (part ∷ []), ← h.1, here))
+  ends_one part y x is some at h = grind (arith, take_nth, append_assoc)
 
   ends_two : (part : ℕ → Part) (left : ℕ) (y z x : Node) → ((s : ℕ) → node_parts s x ≡ (node_parts s y ++ node_parts (s + node_size y) z) ++ (part (s + node_size y - 1) ∷ [])) → left + suc (node_size z) ≡ i → slice_get ps i ≡ Some (part left) → Ends ps left y → Ends ps (i - 1) z → Ends ps i x
   ends_two part left y z x is adjoin at h k =
       let here : suc (i - 1) ≡ i = omega arith in
-      let within = nth_within ps i (part left) at in
+      let within = slice_get_within ps i (part left) at in
       let right : take i ps ≡ k.0 ++ node_parts (length k.0) z = ap (λ n. take n ps) (sym here) ∙ k.1 in
       let many = sym (length-take-le i ps (omega arith)) ∙ ap length right ∙ length-append k.0 (node_parts (length k.0) z) in
       let upto : length k.0 ≡ suc left = omega (arith, length_node_parts z (length k.0)) in
@@ -84,41 +73,28 @@ module _ (ps : List Part) (ns : List Node) (i : ℕ) (below : (j : ℕ) (y : Nod
   ended (Unary u) at is = one_ended (Unary u) _ _ (λ s. refl) at is.1
   ended (Binary b left) at is = two_ended (Binary b) left _ _ _ (λ s. refl) at is.2
   ended (Over s w) at is = one_ended (Over s w) _ _ (λ s. refl) at is.1
-  ended (Compare c d left) at is = two_ended (Compare c d) left _ _ _ (λ s. refl) at is.2
+  ended (Compare c q left) at is = two_ended (Compare c q) left _ _ _ (λ s. refl) at is.2
   ended (Prefix y) at is = one_ended (Prefix y) _ _ (λ s. refl) at is.1
   ended (Connective c left) at is = two_ended (Connective c) left _ _ _ (λ s. refl) at is.2
 
 ends_at : (ps : List Part) (ns : List Node) → nodes ps ≡ Some ns → (upto i : ℕ) (x : Node) → i < upto → slice_get ns i ≡ Some x → Ends ps i x
 ends_at ps ns are zero i x h at = absurd (omega arith)
 ends_at ps ns are (suc upto) i x h at =
-    let within = nth_within ns i x at in
-    let p = some_nth ps i (omega (arith, as_many_nodes ps ns are)) in
-    let e = ended ps ns i (λ j y l at. ends_at ps ns are upto j y (omega arith) at) p.0 p.1 (meant ps ns i p.0 are p.1) in
+    let within = slice_get_within ns i x at in
+    let here = slice_get-get_or ps i (Variable 0) (omega (arith, as_many_nodes ps ns are)) in
+    let e = ended ps ns i (λ j y l at. ends_at ps ns are upto j y (omega arith) at) _ here (meant ps ns i _ are here) in
     let same : e.0 ≡ x = cc in
     rw (← same) e.2
 
-if_some : {X : Type 0} (t : Bool) (o : Option X) {x : X} → cond t o None ≡ Some x → (t ≡ true) × (o ≡ Some x)
-if_some false o e = (cc, cc)
-if_some true o e = (refl, e)
-
-flattened_some : {X Y : Type 0} {f : X → Option Y} (o : Option X) {y : Y} → option_flatten (option_map f o) ≡ Some y → (x : X) × (o ≡ Some x) × (f x ≡ Some y)
-flattened_some None e = let z : ◌≡◌ {A = ℕ} 0 1 = cc in absurd (omega arith)
-flattened_some (Some x) e = (x, refl, e)
-
 -- the last node of some parts that are a tree is that tree, and all the parts belong to it
 pub root_node : (ps : List Part) (p : Property) → tree_of ps ≡ Some p → (ns : List Node) × (nodes ps ≡ Some ns) × (last_node ns ≡ Some (property p)) × (property_size p ≡ length ns)
-root_node ps p e =
-    let r = flattened_some {f = root_of} (nodes ps) e in
-    let ns = r.0 in
-    let h = if_some (eqb (size_of (last_node ns)) (length ns)) (as_property (last_node ns)) r.2 in
-    let last = as_property_some (last_node ns) h.1 in
-    (ns, r.1, last, sym (ap size_of last) ∙ eqb-true (size_of (last_node ns)) (length ns) h.0)
+root_node ps p e = grind arith
 
 pub parts_of_tree_of : (ps : List Part) (p : Property) → tree_of ps ≡ Some p → ps ≡ parts_of p
 parts_of_tree_of ps p e =
     let r = root_node ps p e in
     let many = as_many_nodes ps r.0 r.1 in
-    let within = nth_within r.0 (length r.0 - 1) (property p) r.2 in
+    let within = slice_get_within r.0 (length r.0 - 1) (property p) r.2 in
     let h = ends_at ps r.0 r.1 (length r.0) (length r.0 - 1) (property p) within r.2 in
     let whole : ps ≡ h.0 ++ property_parts (length h.0) p = sym (take_all (suc (length r.0 - 1)) ps (omega arith)) ∙ h.1 in
     let none : h.0 ≡ [] = nil_from_length h.0 (omega (arith, ap length whole, length-append h.0 (property_parts (length h.0) p), length_property_parts p (length h.0))) in

@@ -1,9 +1,10 @@
 -- Formulas as trees: measures, which are numbers, and properties, which are true or false. Assumes nothing.
-use Rattle.std.specs.Prelude.{ℕ, Bool, ℤ}
+use Rattle.std.specs.Prelude.{ℕ, ℤ}
 use Rattle.parts.specs.declared.kinds.Binary.{Binary}
 use Rattle.parts.specs.declared.kinds.Comparator.{Comparator}
 use Rattle.parts.specs.declared.kinds.Connective.{Connective}
 use Rattle.parts.specs.declared.kinds.Prefix.{Prefix}
+use Rattle.parts.specs.declared.kinds.Quantity.{Quantity}
 use Rattle.parts.specs.declared.kinds.Statistic.{Statistic}
 use Rattle.parts.specs.declared.kinds.Unary.{Unary}
 use Rattle.parts.specs.declared.kinds.Window.{Window}
@@ -17,7 +18,7 @@ pub data Measure : Type 0 where
   over : Statistic → Window → Measure → Measure
 
 pub data Property : Type 0 where
-  -- `true` where the left measure is taken as its change to the next state, written d
-  compare : Comparator → Bool → Measure → Measure → Property
+  -- the left measure is taken as its value or as its change
+  compare : Comparator → Quantity → Measure → Measure → Property
   prefixed : Prefix → Property → Property
   joined : Connective → Property → Property → Property

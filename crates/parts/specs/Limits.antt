@@ -37,6 +37,6 @@ lawful_connective Iff = true
 lawful_connective (Until w) = lawful_window w
 
 abbrev pub lawful : ℕ → ℕ → Property → Bool
-lawful width largest (compare c d m n) = lawful_measure width largest false m && lawful_measure width largest false n
+lawful width largest (compare c q m n) = lawful_measure width largest false m && lawful_measure width largest false n
 lawful width largest (prefixed p f) = lawful_prefix p && lawful width largest f
 lawful width largest (joined c f g) = lawful_connective c && (lawful width largest f && lawful width largest g)

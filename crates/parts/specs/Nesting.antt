@@ -1,8 +1,10 @@
 -- The least nesting with which a text can write a formula. Assumes nothing.
-use Rattle.std.specs.Prelude.{ℕ, suc, pred, max, Bool, true, false, cond, nat_le}
+use Rattle.std.specs.Prelude.{ℕ, suc, pred, max, cond, nat_le}
 use Rattle.parts.specs.Formulas.{Measure, numeral, variable, unary, binary, over, Property, compare, prefixed, joined}
 use Rattle.parts.specs.declared.kinds.Connective.{Connective}
 use Rattle.parts.specs.declared.kinds.Connective.TheVariants.{And, Or, Implies, Iff, Until}
+use Rattle.parts.specs.declared.kinds.Quantity.{Quantity}
+use Rattle.parts.specs.declared.kinds.Quantity.TheVariants.{Value, Change}
 
 -- arguments nest one
 abbrev pub measure_nesting : Measure → ℕ
@@ -13,9 +15,9 @@ measure_nesting (binary b m n) = suc (max (measure_nesting m) (measure_nesting n
 measure_nesting (over s w m) = suc (measure_nesting m)
 
 -- and so does d( )
-abbrev pub left_nesting : Bool → Measure → ℕ
-left_nesting false m = measure_nesting m
-left_nesting true m = suc (measure_nesting m)
+abbrev pub left_nesting : Quantity → Measure → ℕ
+left_nesting Value m = measure_nesting m
+left_nesting Change m = suc (measure_nesting m)
 
 -- how loosely a connective binds
 abbrev pub connective_level : Connective → ℕ
@@ -31,7 +33,7 @@ bracket_nesting allowed level nesting = cond (nat_le level allowed) nesting (suc
 
 -- Where what stands there may bind as loosely as this level: a prefix, which nests one, takes level 0; a connective takes its own level on the left and what binds tighter on the right.
 abbrev pub nesting_at : ℕ → Property → ℕ
-nesting_at allowed (compare c d m n) = max (left_nesting d m) (measure_nesting n)
+nesting_at allowed (compare c q m n) = max (left_nesting q m) (measure_nesting n)
 nesting_at allowed (prefixed x p) = suc (nesting_at 0 p)
 nesting_at allowed (joined c p q) = bracket_nesting allowed (connective_level c) (max (nesting_at (connective_level c) p) (nesting_at (pred (connective_level c)) q))
 

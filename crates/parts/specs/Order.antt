@@ -15,7 +15,7 @@ measure_size (binary b m n) = suc (measure_size m + measure_size n)
 measure_size (over s w m) = suc (measure_size m)
 
 abbrev pub property_size : Property → ℕ
-property_size (compare c d m n) = suc (measure_size m + measure_size n)
+property_size (compare c q m n) = suc (measure_size m + measure_size n)
 property_size (prefixed x p) = suc (property_size p)
 property_size (joined c p q) = suc (property_size p + property_size q)
 
@@ -28,7 +28,7 @@ measure_parts start (binary b m n) = (measure_parts start m ++ measure_parts (st
 measure_parts start (over s w m) = measure_parts start m ++ (Over s w ∷ [])
 
 abbrev pub property_parts : ℕ → Property → List Part
-property_parts start (compare c d m n) = (measure_parts start m ++ measure_parts (start + measure_size m) n) ++ (Compare c d (start + measure_size m - 1) ∷ [])
+property_parts start (compare c q m n) = (measure_parts start m ++ measure_parts (start + measure_size m) n) ++ (Compare c q (start + measure_size m - 1) ∷ [])
 property_parts start (prefixed x p) = property_parts start p ++ (Prefix x ∷ [])
 property_parts start (joined c p q) = (property_parts start p ++ property_parts (start + property_size p) q) ++ (Connective c (start + property_size p - 1) ∷ [])
 
@@ -79,7 +79,7 @@ node ns (Variable v) = Some (measure (variable v))
 node ns (Unary u) = option_map (λ m. measure (unary u m)) (as_measure (last_node ns))
 node ns (Binary b left) = option_map (λ o. measure (binary b o.0 o.1)) (measures_at ns left)
 node ns (Over s w) = option_map (λ m. measure (over s w m)) (as_measure (last_node ns))
-node ns (Compare c d left) = option_map (λ o. property (compare c d o.0 o.1)) (measures_at ns left)
+node ns (Compare c q left) = option_map (λ o. property (compare c q o.0 o.1)) (measures_at ns left)
 node ns (Prefix x) = option_map (λ p. property (prefixed x p)) (as_property (last_node ns))
 node ns (Connective c left) = option_map (λ o. property (joined c o.0 o.1)) (properties_at ns left)
 

@@ -1,6 +1,6 @@
 // How large the value of a measure can be, told from how large its arguments can be; None where a bound or a factor passes its limit.
-ghost use Rattle.std.specs.Prelude.{◌≡◌};
-ghost use Rattle.parts.specs.Bounds.{binary_bound, binary_kept, factors_kept, if_kept, statistic_bound, statistic_kept, unary_bound, unary_kept};
+ghost use Rattle.std.specs.Prelude.{◌≡◌, nat_le};
+ghost use Rattle.parts.specs.Bounds.{binary_bound, binary_kept, if_kept, statistic_bound, statistic_kept, unary_bound, unary_kept};
 
 use super::kinds::{Binary, Statistic, Unary};
 
@@ -10,8 +10,14 @@ const MOST: u64 = 10_000_000_000_000;
 // No factor's bound may pass this.
 const MOST_FACTOR: u64 = 1_000_000_000;
 
-// A run has at most so many states.
+// A run has at most so many states. Said here too: this crate stands on no other.
 const MOST_STATES: u64 = 4_096;
+
+fn within(most: u64, bound: u64) -> Option<u64>
+    ensures { result ≡ if_kept (nat_le bound most) bound }
+{
+    (bound <= most).then_some(bound)
+}
 
 impl Unary {
     pub fn bound(self, argument: u64) -> Option<u64>
@@ -21,31 +27,19 @@ impl Unary {
             Unary::Abs => argument,
             Unary::Sign => 1,
         };
-        if bound <= MOST { Some(bound) } else { None }
+        within(MOST, bound)
     }
 }
 
 impl Binary {
-    fn keeps_factors(self, left: u64, right: u64) -> bool
-        ensures { result ≡ factors_kept self left right }
-    {
-        match self {
-            Binary::Add | Binary::Subtract => true,
-            Binary::Multiply => left <= MOST_FACTOR && right <= MOST_FACTOR,
-        }
-    }
-
     pub fn bound(self, left: u64, right: u64) -> Option<u64>
         ensures { result ≡ if_kept (binary_kept self left right) (binary_bound self left right) }
     {
-        if !self.keeps_factors(left, right) {
-            return None;
-        }
         let bound = match self {
             Binary::Add | Binary::Subtract => left.checked_add(right)?,
-            Binary::Multiply => left.checked_mul(right)?,
+            Binary::Multiply => within(MOST_FACTOR, left)? * within(MOST_FACTOR, right)?,
         };
-        if bound <= MOST { Some(bound) } else { None }
+        within(MOST, bound)
     }
 }
 
@@ -58,6 +52,6 @@ impl Statistic {
             Statistic::Sum => MOST_STATES.checked_mul(argument)?,
             Statistic::Count => MOST_STATES,
         };
-        if bound <= MOST { Some(bound) } else { None }
+        within(MOST, bound)
     }
 }

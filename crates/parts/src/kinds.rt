@@ -33,6 +33,14 @@ pub enum Statistic {
     Count,
 }
 
+// How the left measure of a comparison is taken.
+#[derive(Clone, Copy, PartialEq, Eq, Debug)]
+pub enum Quantity {
+    Value,
+    // Its change to the next state, written d.
+    Change,
+}
+
 // The moments from the first to the last, in ticks from the start of the state that the window is seen from.
 #[derive(Clone, Copy, PartialEq, Eq, Debug)]
 pub struct Window {
@@ -61,6 +69,7 @@ pub enum Connective {
 }
 
 // One part of a criterion. Its operands stand before it: the only one, or the right one, just before, and the left one at the index that the part names.
+// An index and no box: parts are kept in the caller's fixed memory, with no heap.
 #[derive(Clone, Copy, PartialEq, Eq, Debug)]
 pub enum Part {
     Numeral(i64),
@@ -69,8 +78,8 @@ pub enum Part {
     Unary(Unary),
     Binary(Binary, usize),
     Over(Statistic, Window),
-    // Whether the left number is taken as its change to the next state, and where it stands.
-    Compare(Comparator, bool, usize),
+    // How the left number is taken, and where it stands.
+    Compare(Comparator, Quantity, usize),
     Prefix(Prefix),
     Connective(Connective, usize),
 }

@@ -6,4 +6,4 @@ mod kinds;
 // How large the value of a measure can be.
 mod bounds;
 
-pub use kinds::{Binary, Comparator, Connective, Part, Prefix, Statistic, Unary, Window};
+pub use kinds::{Binary, Comparator, Connective, Part, Prefix, Quantity, Statistic, Unary, Window};

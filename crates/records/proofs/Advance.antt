@@ -2,10 +2,11 @@
 use Rattle.std.proofs.Common.{◌≡◌, ℕ, ◌<◌, Bool, true, false, cond, List, drop, Some, None, Ok, Option, ap, ◌∙◌, arith}
 use Rattle.std.proofs.lemmas.Bool.{false≢true}
 use Rattle.records.specs.Cursor.{Cursor, Seen, field_at, field_here, moved, moved_past, behind}
-use Rattle.records.specs.Fields.{cut, is_field}
+use Rattle.records.specs.Fields.{cut}
 use Rattle.records.specs.declared.cut.Cut.{Cut}
 use Rattle.records.specs.declared.cut.Next.{Next}
 use Rattle.records.specs.declared.cut.Next.TheVariants.{Field, Record, End}
+use Rattle.records.proofs.Follows.{is_field}
 
 module _ (bs : List ℕ) (c : Cursor) (s : Seen) (field : is_field s.next ≡ true) where
   past : (k : Cut) (next : Next) → is_field next ≡ true → c.at.byte < (behind bs c.at k next).byte

@@ -4,20 +4,13 @@ use Rattle.std.specs.List.{prefix_len}
 use Rattle.std.proofs.lemmas.Bool.{eqb-true}
 use denote.Enum.Bare.{sameb}
 use Rattle.records.specs.Bytes.{comma, cr, lf, text_data}
-use Rattle.records.specs.Fields.{following, line_end, after_line, is_field, is_end, opens}
+use Rattle.records.specs.Fields.{following, line_end, after_line, opens}
 use Rattle.records.specs.contracts.cut.Next.{the_type}
 use Rattle.records.specs.declared.cut.Next.{Next}
 
 -- what `==` tells of it
-pub is_field_by : (next : Next) → is_field next ≡ sameb the_type next Next.Field
-is_field_by Next.Field = refl
-is_field_by Next.Record = refl
-is_field_by Next.End = refl
-
-pub is_end_by : (next : Next) → is_end next ≡ sameb the_type next Next.End
-is_end_by Next.Field = refl
-is_end_by Next.Record = refl
-is_end_by Next.End = refl
+abbrev pub is_field : Next → Bool
+is_field next = sameb the_type next Next.Field
 
 -- it as four cases to split on
 pub data Follows : List ℕ → Next → Type 0 where

@@ -1,7 +1,6 @@
 -- A loop that reads the fields of a record one after the other and gathers what they come to. Assumes nothing.
 use Rattle.std.proofs.Common.{◌≡◌, ℕ, ◌<◌, ◌≤◌, true, false, List, [], ◌∷◌, ◌++◌, length, Some, None, Ok, Err, Option, Result, sym, refl, ap, ◌∙◌, subst, arith, Bor}
 use Rattle.records.specs.Cursor.{Cursor, Seen, field_at, moved}
-use Rattle.records.specs.Fields.{is_field}
 use Rattle.records.specs.RecordFields.{row, behind_row, gathered, map_ok}
 use Rattle.records.specs.Told.{told_field}
 use Rattle.records.specs.declared.fault.RecordFault.{RecordFault}
@@ -9,6 +8,7 @@ use Rattle.records.specs.declared.fault.RecordFault.TheVariants.{Text}
 use Rattle.records.specs.declared.fault.TextFault.{TextFault}
 use Rattle.records.specs.declared.fields.Field.{Field}
 use Rattle.records.proofs.Advance.{advances}
+use Rattle.records.proofs.Follows.{is_field}
 use Rattle.records.proofs.OneRecord.{Sofar, start, broken, ended, faulty, last, one_more}
 
 -- How a field is read as an item, and what items come to.

@@ -1,5 +1,4 @@
 pub mod Advance
-pub mod Closing
 pub mod Complete
 pub mod Digits
 pub mod Entries

@@ -1,7 +1,7 @@
 -- A name, looked for among others from the left. Assumes nothing.
-use Rattle.std.proofs.Common.{◌≡◌, ℕ, suc, ◌+◌, ◌<◌, Bool, true, false, cond, not, ltb, ◌||◌, List, [], ◌∷◌, ◌++◌, map, length, get_or, take, drop, Some, None, Option, sym, refl, ap, ◌∙◌, arith, bytes_eq, Bor}
-use Rattle.std.specs.List.{list_any, position_or_len}
-use Rattle.std.proofs.lemmas.List.{at_drop_more, map_push, take_more}
+use Rattle.std.proofs.Common.{◌≡◌, ℕ, suc, ◌+◌, Bool, true, false, cond, not, ltb, ◌||◌, List, [], ◌∷◌, ◌++◌, map, length, take, Some, None, Option, sym, refl, ap, ◌∙◌, arith, bytes_eq, Bor}
+use Rattle.std.specs.List.{list_any, position_or_len, enumerate_from}
+use Rattle.std.proofs.lemmas.List.{append_assoc, length_push, map_push, take_at}
 use Rattle.records.specs.Headers.{among, column_from, first_bad, may_stand}
 
 -- names that are lent, by their bytes
@@ -16,6 +16,9 @@ counted i place end = cond (ltb place end) (Some (i + place)) None
 further : (i place end : ℕ) → counted i (1 + place) (suc end) ≡ counted (i + 1) place end
 further i place end = grind arith
 
+from_first : (place end : ℕ) → cond (ltb place end) (Some place) None ≡ counted 0 place end
+from_first place end = grind arith
+
 column_from_position : (ns : List (Bor (List ℕ))) (name : List ℕ) (i : ℕ) → counted i (position_or_len (λ n. bytes_eq n.now name) ns) (length ns) ≡ column_from (map (λ n. n.now) ns) name i
 column_from_position [] name i = refl
 column_from_position (n ∷ ns) name i = by (bytes_eq n.now name) (column_from_position ns name (i + 1))
@@ -27,17 +30,26 @@ column_from_position (n ∷ ns) name i = by (bytes_eq n.now name) (column_from_p
 
 pub column_at_position : (ns : List (Bor (List ℕ))) (name : List ℕ) → cond (ltb (position_or_len (λ n. bytes_eq n.now name) ns) (length ns)) (Some (position_or_len (λ n. bytes_eq n.now name) ns)) None ≡ column_from (map (λ n. n.now) ns) name 0
 column_at_position ns name = from_first _ _ ∙ column_from_position ns name 0
+
+-- a field with its number may not stand behind those before it
+abbrev pub is_bad : List (Bor (List ℕ)) → ℕ × Bor (List ℕ) → Bool
+is_bad all x = not (may_stand (map (λ n. n.now) (take x.0 all)) x.1.now)
+
+-- the first such field of those behind `before`
+bad_from_position : (all before ns : List (Bor (List ℕ))) (i : ℕ) → length before ≡ i → all ≡ before ++ ns
+    → counted i (position_or_len (is_bad all) (enumerate_from i ns)) (length (enumerate_from i ns)) ≡ first_bad (map (λ n. n.now) ns) (map (λ n. n.now) before) i
+bad_from_position all before [] i long whole = refl
+bad_from_position all before (n ∷ ns) i long whole =
+    let rest = bad_from_position all (before ++ (n ∷ [])) ns (i + 1) (length_push before n ∙ ap (λ k. k + 1) long) (whole ∙ sym (append_assoc before (n ∷ []) ns)) in
+    rw stood (by _ _ _ (may_stand (map (λ n. n.now) before) n.now) (rest ∙ ap (λ bs. first_bad (map (λ n. n.now) ns) bs (i + 1)) (map_push (λ n. n.now) before n)))
   where
-    from_first : (place end : ℕ) → cond (ltb place end) (Some place) None ≡ counted 0 place end
-    from_first place end = grind arith
+    stood : may_stand (map (λ n. n.now) (take i all)) n.now ≡ may_stand (map (λ n. n.now) before) n.now
+    stood = ap (λ bs. may_stand (map (λ n. n.now) bs) n.now) (ap (take i) whole ∙ take_at before (n ∷ ns) i long)
 
-module _ (xs : List (Bor (List ℕ))) where
-  -- what is found from the i-th field on, where those before it may stand
-  abbrev pub bad_from : ℕ → Option ℕ
-  bad_from i = first_bad (map (λ x. x.now) (drop i xs)) (map (λ x. x.now) (take i xs)) i
+    by : (place end : ℕ) (others : Option ℕ) (stands : Bool) → counted (i + 1) place end ≡ others
+        → counted i (cond (not (not stands)) (1 + place) 0) (suc end) ≡ cond stands others (Some i)
+    by place end others true same = further i place end ∙ same
+    by place end others false same = grind arith
 
-  pub bad_next : (i : ℕ) (x : Bor (List ℕ)) (stands : Bool) → i < length xs → stands ≡ may_stand (map (λ x. x.now) (take i xs)) (get_or xs i x).now → bad_from i ≡ cond stands (bad_from (i + 1)) (Some i)
-  bad_next i x stands inside is =
-      at_drop_more (λ ys. first_bad (map (λ x. x.now) ys) (map (λ x. x.now) (take i xs)) i) xs i x inside
-      ∙ ap (λ b. cond b (first_bad (map (λ x. x.now) (drop (i + 1) xs)) (map (λ x. x.now) (take i xs) ++ ((get_or xs i x).now ∷ [])) (i + 1)) (Some i)) (sym is)
-      ∙ ap (λ before. cond stands (first_bad (map (λ x. x.now) (drop (i + 1) xs)) before (i + 1)) (Some i)) (sym (ap (map (λ x. x.now)) (take_more xs i x inside) ∙ map_push (λ x. x.now) (take i xs) (get_or xs i x)))
+pub bad_at_position : (all : List (Bor (List ℕ))) → cond (ltb (position_or_len (is_bad all) (enumerate_from 0 all)) (length (enumerate_from 0 all))) (Some (position_or_len (is_bad all) (enumerate_from 0 all))) None ≡ first_bad (map (λ n. n.now) all) [] 0
+bad_at_position all = from_first _ _ ∙ bad_from_position all [] all 0 refl refl

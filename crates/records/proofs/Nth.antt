@@ -1,31 +1,7 @@
--- What stands at an index of a list, where the list is a part or an image of another. Assumes nothing.
-use Rattle.std.proofs.Common.{◌≡◌, ℕ, zero, suc, ◌+◌, ◌<◌, List, [], ◌∷◌, ◌++◌, map, length, get_or, take, drop, Some, None, sym, refl, ap, ◌∙◌, add-one, arith}
-use Rattle.std.specs.Option.{option_map}
+-- A list from an index on, by what stands there. Assumes nothing.
+use Rattle.std.proofs.Common.{◌≡◌, ℕ, zero, suc, ◌+◌, List, [], ◌∷◌, drop, Some, None, sym, refl, ap, ◌∙◌, add-one, arith}
 use Rattle.std.specs.List.{slice_get}
-use Rattle.std.proofs.lemmas.List.{get_or-take, length-take}
-use Rattle.std.proofs.lemmas.Option.{slice_get-get_or}
 
--- what stands at an index that is among the first n
-pub nth_first : {X : Type 0} (xs : List X) (n i : ℕ) (x : X) → i < length (take n xs) → slice_get (take n xs) i ≡ Some (get_or xs i x)
-nth_first xs n i x h = slice_get-get_or (take n xs) i x h ∙ ap Some (get_or-take n xs i x (omega (arith, length-take n xs)))
-
--- all but the first
-pub nth_rest : {X : Type 0} (xs : List X) (i : ℕ) → slice_get (drop 1 xs) i ≡ slice_get xs (i + 1)
-nth_rest [] i = refl
-nth_rest (x ∷ xs) i = ap (slice_get (x ∷ xs)) (sym (add-one i))
-
-pub nth_map : {X Y : Type 0} (f : X → Y) (xs : List X) (i : ℕ) → slice_get (map f xs) i ≡ option_map f (slice_get xs i)
-nth_map f [] i = refl
-nth_map f (x ∷ xs) zero = refl
-nth_map f (x ∷ xs) (suc i) = nth_map f xs i
-
-pub nth_take : {X : Type 0} (xs : List X) (n i : ℕ) → i < n → slice_get (take n xs) i ≡ slice_get xs i
-nth_take xs zero i h = absurd (omega arith)
-nth_take [] (suc n) i h = refl
-nth_take (x ∷ xs) (suc n) zero h = refl
-nth_take (x ∷ xs) (suc n) (suc i) h = nth_take xs n i (omega arith)
-
--- a list from an index on, by what stands there
 pub drop_some : {X : Type 0} (xs : List X) (i : ℕ) (x : X) → Some x ≡ slice_get xs i → drop i xs ≡ x ∷ drop (i + 1) xs
 drop_some xs i x e = from xs i e ∙ ap (λ n. x ∷ drop n xs) (sym (add-one i))
   where
@@ -39,12 +15,3 @@ drop_none [] zero e = refl
 drop_none [] (suc i) e = refl
 drop_none (x ∷ xs) zero e = absurd (let z : ◌≡◌ {A = ℕ} 0 1 = cc in omega arith)
 drop_none (x ∷ xs) (suc i) e = drop_none xs i e
-
--- a list up to an index, by what stands there
-pub take_some : {X : Type 0} (xs : List X) (i : ℕ) (x : X) → Some x ≡ slice_get xs i → take (i + 1) xs ≡ take i xs ++ (x ∷ [])
-take_some xs i x e = ap (λ n. take n xs) (add-one i) ∙ from xs i e
-  where
-    from : (ys : List _) (k : ℕ) → Some x ≡ slice_get ys k → take (suc k) ys ≡ take k ys ++ (x ∷ [])
-    from [] k e = absurd (let z : ◌≡◌ {A = ℕ} 0 1 = cc in omega arith)
-    from (y ∷ ys) zero e = let same : x ≡ y = cc in ap (λ w. w ∷ []) (sym same)
-    from (y ∷ ys) (suc k) e = ap (λ zs. y ∷ zs) (from ys k e)

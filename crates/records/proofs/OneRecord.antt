@@ -3,13 +3,13 @@ use Rattle.std.proofs.Common.{◌≡◌, ℕ, zero, suc, ◌+◌, ◌<◌, ◌�
 use Rattle.std.proofs.lemmas.List.{length_push}
 use Rattle.std.proofs.lemmas.Bool.{true≢false, false≢true}
 use Rattle.records.specs.Cursor.{Cursor, Seen, field_at, moved}
-use Rattle.records.specs.Fields.{is_field}
 use Rattle.records.specs.RecordFields.{Row, then_rest, row_read, row_here, row_from, row}
 use Rattle.records.specs.declared.cut.Next.{Next}
 use Rattle.records.specs.declared.cut.Next.TheVariants.{Field, Record, End}
 use Rattle.records.specs.declared.fault.RecordFault.{RecordFault}
 use Rattle.records.specs.declared.fault.RecordFault.TheVariants.{Text}
 use Rattle.records.specs.declared.fault.TextFault.{TextFault}
+use Rattle.records.proofs.Follows.{is_field}
 
 -- items read before the rest of a row
 abbrev with_all : {A : Type 0} → List A → Result (Row A) RecordFault → Result (Row A) RecordFault

@@ -26,11 +26,6 @@ separator Field = 1
 separator Record = 2
 separator End = 0
 
-abbrev pub is_field : Next → Bool
-is_field Field = true
-is_field Record = false
-is_field End = false
-
 abbrev pub is_end : Next → Bool
 is_end Field = false
 is_end Record = false

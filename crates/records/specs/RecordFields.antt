@@ -13,6 +13,7 @@ pub record Row (A : Type 0) : Type 0 where
   pub after : Cursor
 
 module _ {A : Type 0} where
+  -- a row with one field more at its left
   abbrev pub with_first : A → Result (Row A) RecordFault → Result (Row A) RecordFault
   with_first x (Ok r) = Ok (record { items = x ∷ r.items; after = r.after })
   with_first x (Err f) = Err f
@@ -23,6 +24,7 @@ module _ {A : Type 0} where
   then_rest x Record c rest = Ok (record { items = x ∷ []; after = c })
   then_rest x End c rest = Ok (record { items = x ∷ []; after = c })
 
+  -- that, where the field could be read: else why it is refused
   abbrev pub row_read : Result A RecordFault → Next → Cursor → Result (Row A) RecordFault → Result (Row A) RecordFault
   row_read (Err f) next c rest = Err f
   row_read (Ok x) next c rest = then_rest x next c rest

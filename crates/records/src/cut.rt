@@ -48,6 +48,7 @@ fn quoted_size(inside: &[u8]) -> Option<usize>
 {
     // A quote that came just before: it closes the field unless another follows.
     let mut quote = false;
+    // A loop: whether a byte ends the field depends on the quote before it.
     for (i, b) in inside.iter().enumerate() {
         if *b == b'"' {
             quote = !quote;

@@ -9,6 +9,8 @@ mod read;
 mod records;
 mod titles;
 
+pub use titles::LARGEST_FILE;
+
 // The reader: the file's bytes and where the next field begins in them.
 // Contracts speak of its bytes and its cursor apart, and not of a model of both, since a struct with a model and a lifetime is not Copy.
 #[derive(Clone, Copy)]

@@ -1,5 +1,6 @@
 // The first fields of a record.
-ghost use Rattle.std.specs.Prelude.{◌≡◌, ◌+◌, ◌^◌, ◌<◌, length};
+ghost use Rattle.std.specs.Prelude.{◌≡◌, ◌+◌, ◌^◌, ◌<◌, drop, length};
+ghost use Rattle.std.specs.List.{slice_get};
 ghost use Rattle.records.specs.Firsts.{kept_fields, none, with_one};
 ghost use Rattle.records.specs.Told.{firsts};
 
@@ -38,12 +39,22 @@ impl<T: Copy> Kept<T> {
         &values[..self.count.min(values.len())]
     }
 
-    // Where the kept fields stand.
-    pub(crate) fn places(&self) -> &[Position]
-        ensures { result.now ≡ (firsts self.now).places }
+    // What the kept fields behind the first say.
+    pub(crate) fn rest(&self) -> &[T]
+        ensures { result.now ≡ drop 1 (firsts self.now).values }
+    {
+        match self.values() {
+            [] => &[],
+            [_, rest @ ..] => rest,
+        }
+    }
+
+    // Where a kept field stands.
+    pub(crate) fn place(&self, i: usize) -> Option<Position>
+        ensures { result ≡ slice_get (firsts self.now).places i }
     {
         let places: &[Position] = &self.places;
-        &places[..self.count.min(places.len())]
+        places[..self.count.min(places.len())].get(i).copied()
     }
 
     // How many fields have room here. As slices the arrays tell their lengths to the proof.

@@ -20,7 +20,7 @@ mod numbers;
 
 pub use cut::Next;
 pub use fault::{Position, RecordFault, Refusal, TextFault};
-pub use fields::{Field, Fields};
+pub use fields::{Field, Fields, LARGEST_FILE};
 pub use heading::Header;
 pub use numbers::Record;
 pub use numeral::Numeral;

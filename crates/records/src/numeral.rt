@@ -25,7 +25,7 @@ impl Numeral {
     pub fn within(self, limit: u32) -> Option<i64>
         ensures { result ≡ limited limit self }
     {
-        if self.magnitude > limit as u64 {
+        if self.magnitude > u64::from(limit) {
             return None;
         }
         let magnitude = self.magnitude as i64;
@@ -57,7 +57,7 @@ fn read_digits(digits: &[u8]) -> Option<u64>
         if !b.is_ascii_digit() {
             return None;
         }
-        sum = sum.saturating_mul(10).saturating_add((*b - b'0') as u64);
+        sum = sum.saturating_mul(10).saturating_add(u64::from(*b - b'0'));
     }
     if digits.is_empty() { None } else { Some(sum) }
 }

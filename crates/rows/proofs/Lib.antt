@@ -1,3 +1,1 @@
-pub mod RecordedRows
 pub mod RowStates
-pub mod WrittenRows

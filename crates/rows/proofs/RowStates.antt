@@ -1,11 +1,10 @@
--- Which state stands in which row. Assumes nothing.
-use Rattle.std.proofs.Common.{◌≡◌, ℕ, zero, suc, ◌+◌, ◌*◌, ◌<◌, ◌≤◌, List, length, get_or, take, drop, ℤ, pos, nat_abs, Some, None, ap, ◌∙◌, mul-le-mul_right, suc-mul, add_comm, zero-mul, add-one, arith}
+-- Which state stands in which row, and that one row more is one state more. Assumes nothing.
+use Rattle.std.proofs.Common.{◌≡◌, ℕ, zero, suc, ◌+◌, ◌*◌, ◌<◌, ◌≤◌, List, [], ◌∷◌, ◌++◌, length, get_or, take, drop, ℤ, pos, nat_abs, Some, ap, ◌∙◌, mul-le-mul_right, suc-mul, add_comm, zero-mul, add-one, arith}
 use Rattle.std.specs.List.{slice_get}
-use Rattle.std.proofs.lemmas.List.{drop-drop, drop_more, get_or-drop, get_or-take, length-drop, length-take, length-take-le}
-use Rattle.std.proofs.lemmas.Option.{slice_get-get_or, slice_get_past}
+use Rattle.std.proofs.lemmas.List.{drop-append-le, drop-drop, drop_more, get_or-drop, get_or-take, length-drop, length-take, nil_from_length, take_all, take-append-le}
+use Rattle.std.proofs.lemmas.Option.{slice_get-get_or}
 use Rattle.runs.specs.Runs.{stay_at, value_at}
-use Rattle.stores.specs.declared.head.Head.{Head}
-use Rattle.rows.specs.Rows.{row_state, row_states, rows_kept, length_row_states}
+use Rattle.rows.specs.Rows.{row_state, row_states}
 
 nth_row_states : (width n : ℕ) (cells : List ℤ) (i : ℕ) → i < n → slice_get (row_states width n cells) i ≡ Some (row_state (take (width + 1) (drop (i * (width + 1)) cells)))
 nth_row_states width zero cells i h = absurd (omega arith)
@@ -17,37 +16,33 @@ nth_row_states width (suc n) cells (suc i) h =
 row_state_lem : (width at : ℕ) (cells : List ℤ) → at < length cells → row_state (take (width + 1) (drop at cells)) ≡ record { stay = nat_abs (get_or cells at (pos 0)); values = take width (drop (at + 1) cells) }
 row_state_lem width at cells h = rw (drop_more cells at (pos 0), add-one width)
 
-module _ (h : Head) (cells : List ℤ) where
-  pub state_past : (i : ℕ) → h.count ≤ i → slice_get (rows_kept h cells) i ≡ None
-  state_past i past =
-      let beyond : length (rows_kept h cells) ≤ i = rw length_row_states past in
-      slice_get_past (rows_kept h cells) i beyond
+module _ (width n : ℕ) (cells : List ℤ) (rows : length cells ≡ n * (width + 1)) where
+  pub row_fits : (i : ℕ) → i < n → i * (width + 1) + (width + 1) ≤ length cells
+  row_fits i there = omega (arith, mul-le-mul_right {m = suc i} {n = n} (width + 1) there, suc-mul i (width + 1))
 
-  module _ (rows : h.used ≡ h.count * (h.shape.width + 1)) (fits : h.used ≤ length cells) where
-    pub row_fits : (i : ℕ) → i < h.count → i * (h.shape.width + 1) + (h.shape.width + 1) ≤ h.used
-    row_fits i there = omega (arith, mul-le-mul_right {m = suc i} {n = h.count} (h.shape.width + 1) there, suc-mul i (h.shape.width + 1))
+  nth_row : (i : ℕ) → i < n → slice_get (row_states width n cells) i ≡ Some (record { stay = nat_abs (get_or cells (i * (width + 1)) (pos 0)); values = take width (drop (i * (width + 1) + 1) cells) })
+  nth_row i there = nth_row_states width n cells i there ∙ ap Some (row_state_lem width (i * (width + 1)) cells (omega (arith, row_fits i there)))
 
-    kept_length : length (take h.used cells) ≡ h.used
-    kept_length = length-take-le h.used cells fits
+  pub row_stay : (i : ℕ) → i < n → stay_at (row_states width n cells) i ≡ Some (nat_abs (get_or cells (i * (width + 1)) (pos 0)))
+  row_stay i there = rw (nth_row i there)
 
-    nth_kept : (i : ℕ) → i < h.count → slice_get (rows_kept h cells) i ≡ Some (record { stay = nat_abs (get_or cells (i * (h.shape.width + 1)) (pos 0)); values = take h.shape.width (drop (i * (h.shape.width + 1) + 1) (take h.used cells)) })
-    nth_kept i there =
-        let at = i * (h.shape.width + 1) in
-        let within : at < h.used = omega (arith, row_fits i there) in
-        let inside : at < length (take h.used cells) = rw kept_length within in
-        nth_row_states h.shape.width h.count (take h.used cells) i there ∙ ap Some (row_state_lem h.shape.width at (take h.used cells) inside ∙ rw get_or-take)
+  pub row_value : (i v : ℕ) → i < n → v < width → value_at (row_states width n cells) i v ≡ Some (get_or cells (i * (width + 1) + 1 + v) (pos 0))
+  row_value i v there named =
+      let at = i * (width + 1) in
+      let inside : v < length (take width (drop (at + 1) cells)) = simp (length-take, length-drop) (omega (arith, row_fits i there)) in
+      rw (nth_row i there) (slice_get-get_or _ v (pos 0) inside ∙ ap Some (rw (get_or-take, get_or-drop)))
 
-    pub stay_kept : (i : ℕ) → i < h.count → stay_at (rows_kept h cells) i ≡ Some (nat_abs (get_or cells (i * (h.shape.width + 1)) (pos 0)))
-    stay_kept i there = rw (nth_kept i there)
+-- one row more is one state more
+row_states_suc : (width n : ℕ) (cells row : List ℤ) → length cells ≡ n * (width + 1) → length row ≡ width + 1 → row_states width (suc n) (cells ++ row) ≡ row_states width n cells ++ (row_state row ∷ [])
+row_states_suc width zero cells row long one =
+    let none = nil_from_length cells (long ∙ zero-mul (width + 1)) in
+    let whole : length row ≤ width + 1 = omega arith in
+    rw (none, take_all)
+row_states_suc width (suc n) cells row long one =
+    let rest : length cells ≡ n * (width + 1) + (width + 1) = long ∙ suc-mul n (width + 1) in
+    let enough : width + 1 ≤ length cells = omega arith in
+    let shorter : length (drop (width + 1) cells) ≡ n * (width + 1) = simp length-drop (omega arith) in
+    rw (take-append-le, drop-append-le) (ap (λ ss. row_state (take (width + 1) cells) ∷ ss) (row_states_suc width n (drop (width + 1) cells) row shorter one))
 
-    pub value_kept : (i v : ℕ) → i < h.count → v < h.shape.width → value_at (rows_kept h cells) i v ≡ Some (get_or cells (i * (h.shape.width + 1) + 1 + v) (pos 0))
-    value_kept i v there named =
-        let at = i * (h.shape.width + 1) in
-        let within : at + 1 + v < h.used = omega (arith, row_fits i there) in
-        let inside : v < length (take h.shape.width (drop (at + 1) (take h.used cells))) = simp (length-take, length-drop) (omega arith) in
-        rw (nth_kept i there) (slice_get-get_or _ v (pos 0) inside ∙ ap Some (rw (get_or-take, get_or-drop, get_or-take)))
-
-    pub value_past : (i v : ℕ) → i < h.count → h.shape.width ≤ v → value_at (rows_kept h cells) i v ≡ None
-    value_past i v there past =
-        let beyond : length (take h.shape.width (drop (i * (h.shape.width + 1) + 1) (take h.used cells))) ≤ v = simp length-take (omega arith) in
-        rw (nth_kept i there) (slice_get_past _ v beyond)
+pub row_states_more : (width n : ℕ) (cells row : List ℤ) → length cells ≡ n * (width + 1) → length row ≡ width + 1 → row_states width (n + 1) (cells ++ row) ≡ row_states width n cells ++ (row_state row ∷ [])
+row_states_more width n cells row long one = rw (add-one n) (row_states_suc width n cells row long one)

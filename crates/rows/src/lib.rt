@@ -1,7 +1,7 @@
 // Runs in rows of cells: a state is a stay and then its values.
 #![tactic(auto)]
 
-// The recorder.
-mod rows;
+// How states lie in rows.
+mod layout;
 
-pub use rows::Rows;
+pub use layout::{RowLayout, Rows};

@@ -1,10 +1,11 @@
 -- The faults of a file, layer by layer, with their numbers and places. Assumes nothing.
-use Rattle.std.specs.Prelude.{ℕ, ◌+◌, ◌-◌, cond, List, [], ◌∷◌, ℤ, Some, None, Option, nat_le, unsigned_abs}
+use Rattle.std.specs.Prelude.{ℕ, ◌+◌, ◌-◌, List, ℤ, Some, None, Option, nat_lt, position, unsigned_abs}
 use Rattle.std.specs.Option.{option_map, unwrap_or}
 use Rattle.std.specs.List.{slice_get}
 use Rattle.records.specs.Firsts.{Firsts}
 use Rattle.records.specs.Records.{values_of}
 use Rattle.records.specs.Refusals.{position_of, refusal}
+use Rattle.records.specs.declared.fault.Position.{Position}
 use Rattle.records.specs.declared.fault.RecordFault.{RecordFault}
 use Rattle.records.specs.declared.fault.Refusal as told
 use Rattle.runs.specs.Feeding.{number}
@@ -14,18 +15,21 @@ use Rattle.runfiles.specs.declared.fault.Cause.{Cause}
 use Rattle.runfiles.specs.declared.fault.Cause.TheVariants.{Record, Run}
 use Rattle.runfiles.specs.declared.fault.RunFault.{RunFault}
 
--- a record's fault, whole, with the number of its state: the header is row 0 of the file
+-- the number of the state, from 0, of the record at this position: the header is row 0 of the file
+abbrev pub state_at : Position → ℕ
+state_at p = p.row - 1
+
+-- a record's fault, whole, with the number of its state
 abbrev pub from_record : RecordFault → RunFault
-from_record f = record { state = (position_of f).row - 1; cause = Record f }
+from_record f = record { state = state_at (position_of f); cause = Record f }
 
 abbrev pub refusal_of : Cause → told.Refusal
 refusal_of (Record f) = refusal f
 refusal_of (Run r place) = record { number = number r; place = place }
 
--- the number of the leftmost value beyond the largest magnitude, counted on from i
-abbrev pub first_over : ℕ → List ℤ → ℕ → Option ℕ
-first_over largest [] i = None
-first_over largest (v ∷ vs) i = cond (nat_le (unsigned_abs v) largest) (first_over largest vs (i + 1)) (Some i)
+-- the number of the leftmost value beyond the largest magnitude
+abbrev pub first_over : ℕ → List ℤ → Option ℕ
+first_over largest vs = position (λ v. nat_lt largest (unsigned_abs v)) vs
 
 -- the first byte of a field, the stay's being 0; that of the record, where no such field is kept
 abbrev pub byte_at : Firsts ℤ → ℕ → ℕ
@@ -40,9 +44,9 @@ abbrev pub place_of : ℕ → Firsts ℤ → Refusal → ℕ
 place_of largest f refused.Width = f.at.byte
 place_of largest f refused.Ended = 0
 place_of largest f refused.Stay = f.at.byte
-place_of largest f refused.Magnitude = over_place f (first_over largest (values_of f) 0)
+place_of largest f refused.Magnitude = over_place f (first_over largest (values_of f))
 place_of largest f refused.Full = f.at.byte
 place_of largest f refused.NoStates = 0
 
 abbrev pub from_run : ℕ → Firsts ℤ → Refusal → RunFault
-from_run largest f r = record { state = f.at.row - 1; cause = Run r (place_of largest f r) }
+from_run largest f r = record { state = state_at f.at; cause = Run r (place_of largest f r) }

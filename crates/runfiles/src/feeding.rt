@@ -1,98 +1,97 @@
 // One record fed.
 ghost use Rattle.std.specs.Prelude.{◌≡◌, ◌<◌, length, IfSome, is_ok, if◌then◌else◌, Some, Ok};
-ghost use Rattle.records.specs.Cursor.{Cursor};
 ghost use Rattle.records.specs.Told.{cursor};
-ghost use Rattle.records.specs.Records.{behind_record, numbers_of, record_at, stay_of, values_of};
-ghost use Rattle.runs.specs.Feeding.{feed_refusal, fed, after};
-ghost use Rattle.runfiles.specs.Faults.{byte_at, first_over, over_place, place_of};
-ghost use Rattle.runfiles.specs.Offers.{answer_to, cells_after, meaning_after, offered_values};
+ghost use Rattle.records.specs.Records.{behind_record, numbers_of, record_at, values_of};
+ghost use Rattle.runs.specs.Offers.{told};
+ghost use Rattle.runfiles.specs.Faults.{byte_at, first_over, from_run, over_place, place_of};
+ghost use Rattle.runfiles.specs.Offers.{offer_answer, offer_of, record_answer, record_cells, record_meaning, record_refusal};
 
-use super::fault::{Cause, RunFault};
+use super::fault::{Cause, RunFault, state_at};
 use records::{Fields, Record};
-use runs::{Recorder, Refusal};
+use runs::{Offer, Recorder, Refusal, Shape};
 
 // The fields of a record with a value for each variable that a run can have.
-const MOST_FIELDS: usize = 17;
+const MOST_FIELDS: usize = 1 + Shape::WIDEST;
 
-// The values that a record offers. One with more than any run takes is refused for their number, so it offers none.
-fn offered_values(row: &Record) -> &[i64]
-    ensures { result.now ≡ offered_values (numbers_of row.now) }
+// The state that a record offers. One with more values than any run takes is refused for their number, so it offers none.
+fn offer_of(row: &Record) -> Offer<'_>
+    ensures { told result ≡ offer_of (numbers_of row.now) }
 {
-    if row.count() <= MOST_FIELDS {
+    let values = if row.count() <= MOST_FIELDS {
         row.values()
     } else {
         &[]
+    };
+    Offer {
+        stay: row.stay(),
+        values,
     }
-}
-
-// The number of the leftmost value beyond the largest magnitude.
-fn first_over(largest: u64, values: &[i64]) -> Option<usize>
-    ensures value { result ≡ first_over largest values.now 0 }
-    ensures bound { IfSome result (λ v. v < length values.now) }
-{
-    for (v, value) in values.iter().enumerate() {
-        if value.unsigned_abs() > largest {
-            return Some(v);
-        }
-    }
-    None
 }
 
 // The first byte of a field, the stay's being 0.
 fn byte_at(row: &Record, field: usize) -> usize
     ensures { result ≡ byte_at (numbers_of row.now) field }
 {
-    match row.place(field) {
-        Some(at) => at.byte,
-        None => row.at().byte,
-    }
+    row.place(field).map_or(row.at().byte, |at| at.byte)
 }
 
-fn over_place(largest: u64, row: &Record) -> usize
-    ensures { result ≡ over_place (numbers_of row.now) (first_over largest (values_of (numbers_of row.now)) 0) }
+// The number of the leftmost value beyond the largest magnitude.
+fn first_over(largest: u64, values: &[i64]) -> Option<usize>
+    ensures value { result ≡ first_over largest values.now }
+    ensures bound { IfSome result (λ v. v < length values.now) }
 {
-    match first_over(largest, row.values()) {
+    values.iter().position(|v| v.unsigned_abs() > largest)
+}
+
+// The first byte of the leftmost value beyond the recorder's largest magnitude.
+fn over_place<R: Recorder>(row: &Record) -> usize
+    ensures { result ≡ over_place (numbers_of row.now) (first_over R.largest (values_of (numbers_of row.now))) }
+{
+    match first_over(R::largest_magnitude().unsigned_abs(), row.values()) {
         Some(v) => byte_at(row, v + 1),
         None => row.at().byte,
     }
 }
 
 // Where in the file a run's refusal of this record stands.
-fn place_of(refusal: Refusal, largest: u64, row: &Record) -> usize
-    ensures { result ≡ place_of largest (numbers_of row.now) refusal }
+fn place_of<R: Recorder>(refusal: Refusal, row: &Record) -> usize
+    ensures { result ≡ place_of R.largest (numbers_of row.now) refusal }
 {
     match refusal {
         Refusal::Width | Refusal::Stay | Refusal::Full => row.at().byte,
-        Refusal::Magnitude => over_place(largest, row),
+        Refusal::Magnitude => over_place::<R>(row),
+        // Place 0, as the format lays down: no byte of the file is at fault.
         Refusal::Ended | Refusal::NoStates => 0,
     }
 }
 
+// A run's refusal of this record, as a fault of the file.
+fn fault_of<R: Recorder>(refusal: Refusal, row: &Record) -> RunFault
+    ensures { result ≡ from_run R.largest (numbers_of row.now) refusal }
+{
+    RunFault {
+        state: state_at(row.at()),
+        cause: Cause::Run(refusal, place_of::<R>(refusal, row)),
+    }
+}
+
 // Offers a record to a run.
-fn offer<R: Recorder>(recorder: &mut R, row: &Record) -> Result<bool, RunFault>
-    ensures answer { result ≡ answer_to R.largest (R.room recorder.old) (R.price recorder.old) (R.meaning recorder.old) (Ok (Some (numbers_of row.now))) }
-    ensures after { R.meaning recorder.new ≡ meaning_after R.largest (R.room recorder.old) (R.price recorder.old) (R.meaning recorder.old) (Ok (Some (numbers_of row.now))) }
-    ensures cells { R.cells recorder.new ≡ cells_after R.largest (R.room recorder.old) (R.price recorder.old) (R.meaning recorder.old) (R.cells recorder.old) (R.written recorder.old) (Ok (Some (numbers_of row.now))) }
+fn offer<R: Recorder>(recorder: &mut R, row: &Record) -> Result<(), RunFault>
+    ensures answer { result ≡ offer_answer R.largest (numbers_of row.now) (record_refusal R.Recorder recorder.old (numbers_of row.now)) }
+    ensures after { R.meaning recorder.new ≡ record_meaning R.Recorder recorder.old (Ok (Some (numbers_of row.now))) }
+    ensures cells { R.cells recorder.new ≡ record_cells R.Recorder recorder.old (Ok (Some (numbers_of row.now))) }
     ensures place { R.place recorder.new ≡ R.place recorder.old }
 {
-    match recorder.feed(row.stay(), offered_values(row)) {
-        Ok(()) => Ok(true),
-        Err(refusal) => {
-            let largest = R::largest_magnitude().unsigned_abs();
-            let place = place_of(refusal, largest, row);
-            Err(RunFault {
-                state: row.at().row.saturating_sub(1),
-                cause: Cause::Run(refusal, place),
-            })
-        }
-    }
+    recorder
+        .feed(offer_of(row))
+        .map_err(|refusal| fault_of::<R>(refusal, row))
 }
 
 // Feeds the next record of a file to a run: true once it is fed, false once the file has ended. A refusal changes neither the reader nor the run.
 pub fn feed_record<R: Recorder>(fields: &mut Fields<'_>, recorder: &mut R) -> Result<bool, RunFault>
-    ensures answer { result ≡ answer_to R.largest (R.room recorder.old) (R.price recorder.old) (R.meaning recorder.old) (record_at fields.old.bytes.now (cursor fields.old)) }
-    ensures after { R.meaning recorder.new ≡ meaning_after R.largest (R.room recorder.old) (R.price recorder.old) (R.meaning recorder.old) (record_at fields.old.bytes.now (cursor fields.old)) }
-    ensures cells { R.cells recorder.new ≡ cells_after R.largest (R.room recorder.old) (R.price recorder.old) (R.meaning recorder.old) (R.cells recorder.old) (R.written recorder.old) (record_at fields.old.bytes.now (cursor fields.old)) }
+    ensures answer { result ≡ record_answer R.Recorder recorder.old (record_at fields.old.bytes.now (cursor fields.old)) }
+    ensures after { R.meaning recorder.new ≡ record_meaning R.Recorder recorder.old (record_at fields.old.bytes.now (cursor fields.old)) }
+    ensures cells { R.cells recorder.new ≡ record_cells R.Recorder recorder.old (record_at fields.old.bytes.now (cursor fields.old)) }
     ensures place { R.place recorder.new ≡ R.place recorder.old }
     ensures reader { cursor fields.new ≡ (if is_ok result then behind_record fields.old.bytes.now (cursor fields.old) else cursor fields.old) }
     ensures bytes { fields.new.bytes ≡ fields.old.bytes }
@@ -101,7 +100,7 @@ pub fn feed_record<R: Recorder>(fields: &mut Fields<'_>, recorder: &mut R) -> Re
     let Some(row) = ahead.next_record()? else {
         return Ok(false);
     };
-    let fed = offer(recorder, &row)?;
+    offer(recorder, &row)?;
     *fields = ahead;
-    Ok(fed)
+    Ok(true)
 }

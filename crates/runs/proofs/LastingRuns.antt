@@ -1,8 +1,9 @@
 -- Whatever calls follow, the states only grow, a closed run no longer changes and the lead only falls. Assumes nothing.
-use Rattle.std.proofs.Common.{◌≡◌, ℕ, zero, suc, Bool, true, false, cond, List, [], ◌∷◌, ◌++◌, ℤ, Some, None, Option, sym, refl, ap, ◌∙◌, arith}
+use Rattle.std.proofs.Common.{◌≡◌, ℕ, zero, suc, Bool, true, cond, [], ◌∷◌, ◌++◌, Some, None, Option, sym, refl, ap, ◌∙◌, arith}
 use Rattle.std.proofs.lemmas.List.{append_assoc, append-nil}
 use Rattle.runs.specs.Calls.{Lasting, Later, Step, closes, feeds, stepped}
-use Rattle.runs.specs.Feeding.{after, close_refusal, fed, feed_refusal, offered, with_state}
+use Rattle.runs.specs.Feeding.{after, close_refusal, fed, feed_refusal, state_of, with_state}
+use Rattle.runs.specs.Offers.{Offered}
 use Rattle.runs.specs.Runs.{Meaning, Run, State, ended}
 use Rattle.runs.specs.declared.refusal.Refusal.{Refusal}
 use Rattle.runs.specs.declared.refusal.Refusal.TheVariants as refusal
@@ -26,19 +27,18 @@ later_more s (suc n) run lasts = record { shape = refl; states = ([], sym (appen
 
 -- what is not refused was not ended
 not_ended : (b : Bool) (o : Option Refusal) → cond b (Some refusal.Ended) o ≡ None → b ≡ true → ⊥
-not_ended true o taken e = let z : ◌≡◌ {A = ℕ} 0 1 = cc in omega arith
-not_ended false o taken e = let z : ◌≡◌ {A = ℕ} 0 1 = cc in omega arith
+not_ended b o taken e = grind (arith, taken, e)
 
-later_fed : (o : Option Refusal) (stay : ℤ) (values : List ℤ) (m : Meaning) → (o ≡ None → ended m.run.mark ≡ true → ⊥) → Later m (fed o stay values m)
-later_fed (Some r) stay values m lasts = later_same m
-later_fed None stay values m lasts = later_more (offered stay values) m.lead m.run (lasts refl)
+later_fed : (refused : Option Refusal) (o : Offered) (m : Meaning) → (refused ≡ None → ended m.run.mark ≡ true → ⊥) → Later m (fed refused o m)
+later_fed (Some r) o m lasts = later_same m
+later_fed None o m lasts = later_more (state_of o) m.lead m.run (lasts refl)
 
 later_closed : (o : Option Refusal) (m : Meaning) → (o ≡ None → ended m.run.mark ≡ true → ⊥) → Later m (after o m (record { run = record { shape = m.run.shape; states = m.run.states; mark = Closed }; lead = m.lead }))
 later_closed (Some r) m lasts = later_same m
 later_closed None m lasts = record { shape = refl; states = ([], sym (append-nil m.run.states)); ended = λ e. absurd (lasts refl e); lead = omega arith }
 
 later_step : (largest : ℕ) (s : Step) (m : Meaning) → Later m (stepped largest s m)
-later_step largest (feeds free need stay values) m = later_fed (feed_refusal largest free need m stay values) stay values m (not_ended (ended m.run.mark) _)
+later_step largest (feeds free need o) m = later_fed (feed_refusal largest free need m o) o m (not_ended (ended m.run.mark) _)
 later_step largest closes m = later_closed (close_refusal m) m (not_ended (ended m.run.mark) _)
 
 pub lasting : (largest : ℕ) (m : Meaning) → Lasting largest m

@@ -1,6 +1,7 @@
 -- What lists of calls do to a meaning, and what lasts whatever they are. Assumes nothing.
 use Rattle.std.specs.Prelude.{◌≡◌, ℕ, ◌≤◌, true, List, [], ◌∷◌, ◌++◌, ℤ, Option}
 use Rattle.runs.specs.Feeding.{after, close_refusal, closed, fed, feed_refusal}
+use Rattle.runs.specs.Offers.{Offered, told}
 use Rattle.runs.specs.Runs.{Meaning, State, ended}
 use Rattle.runs.specs.declared.calls.Call.{Call}
 use Rattle.runs.specs.declared.calls.Call.TheVariants as call
@@ -8,25 +9,25 @@ use Rattle.runs.specs.declared.refusal.Refusal.{Refusal}
 
 -- A call on a recorder. A feed comes with the cells that are free and those that its state needs at that time, so that it may be one on any recorder.
 pub data Step : Type 0 where
-  feeds : (free need : ℕ) (stay : ℤ) (values : List ℤ) → Step
+  feeds : (free need : ℕ) (offer : Offered) → Step
   closes : Step
 
 -- the call of the code, at a recorder with so many free cells and these prices
-abbrev pub step_of : ℕ → (ℤ → List ℤ → ℕ) → Call → Step
-step_of free price (call.Feed stay values) = feeds free (price stay values.now) stay values.now
+abbrev pub step_of : ℕ → (Offered → ℕ) → Call → Step
+step_of free price (call.Feed offer) = feeds free (price (told offer)) (told offer)
 step_of free price call.Close = closes
 
 abbrev pub step_refusal : ℕ → Step → Meaning → Option Refusal
-step_refusal largest (feeds free need stay values) m = feed_refusal largest free need m stay values
+step_refusal largest (feeds free need o) m = feed_refusal largest free need m o
 step_refusal largest closes m = close_refusal m
 
 abbrev pub stepped : ℕ → Step → Meaning → Meaning
-stepped largest (feeds free need stay values) m = fed (feed_refusal largest free need m stay values) stay values m
+stepped largest (feeds free need o) m = fed (feed_refusal largest free need m o) o m
 stepped largest closes m = closed m
 
 -- the cells after a call: those that a feed writes once it takes its state
-abbrev pub step_written : ℕ → Step → Meaning → List ℤ → (ℤ → List ℤ → List ℤ) → List ℤ
-step_written largest (feeds free need stay values) m cells written = after (feed_refusal largest free need m stay values) cells (written stay values)
+abbrev pub step_written : ℕ → Step → Meaning → List ℤ → (Offered → List ℤ) → List ℤ
+step_written largest (feeds free need o) m cells written = after (feed_refusal largest free need m o) cells (written o)
 step_written largest closes m cells written = cells
 
 abbrev pub after_steps : ℕ → List Step → Meaning → Meaning
@@ -45,6 +46,6 @@ abbrev pub Lasting : ℕ → Meaning → Type 0
 Lasting largest m = (steps : List Step) → Later m (after_steps largest steps m)
 
 -- The meaning that a list of calls leads to, for a recorder whose free cells and prices its meaning tells.
-abbrev pub led : ℕ → (Meaning → ℕ) → (Meaning → ℤ → List ℤ → ℕ) → List Call → Meaning → Meaning
+abbrev pub led : ℕ → (Meaning → ℕ) → (Meaning → Offered → ℕ) → List Call → Meaning → Meaning
 led largest free price [] m = m
 led largest free price (c ∷ cs) m = led largest free price cs (stepped largest (step_of (free m) (price m) c) m)

@@ -1,6 +1,7 @@
 // A recorder that is lent is one too, so that a view can stand over a recorder that its owner keeps.
 ghost use Rattle.std.specs.Prelude.{◌≡◌, pos};
 
+use super::offer::Offer;
 use super::recorder::Recorder;
 use super::refusal::Refusal;
 use super::shape::{Mark, Shape};
@@ -48,8 +49,8 @@ impl<'a, R: Recorder> Recorder for &'a mut R {
         (**self).free()
     }
 
-    fn need(&self, stay: i64, values: &[i64]) -> usize {
-        (**self).need(stay, values)
+    fn need(&self, offer: Offer<'_>) -> usize {
+        (**self).need(offer)
     }
 
     fn stay(&self, i: usize) -> Option<u64> {
@@ -60,8 +61,8 @@ impl<'a, R: Recorder> Recorder for &'a mut R {
         (**self).value(i, v)
     }
 
-    fn feed(&mut self, stay: i64, values: &[i64]) -> Result<(), Refusal> {
-        (**self).feed(stay, values)
+    fn feed(&mut self, offer: Offer<'_>) -> Result<(), Refusal> {
+        (**self).feed(offer)
     }
 
     fn close(&mut self) -> Result<(), Refusal> {

@@ -5,6 +5,8 @@
 mod shape;
 // Why a call is refused.
 mod refusal;
+// A state as it is offered.
+mod offer;
 // Why a state is refused, told before anything is written.
 mod feeding;
 // What a recorder is.
@@ -15,6 +17,7 @@ mod lent;
 mod calls;
 
 pub use calls::{Call, carry_out};
+pub use offer::Offer;
 pub use recorder::Recorder;
 pub use refusal::Refusal;
 pub use shape::{Mark, Shape};

@@ -6,10 +6,6 @@ ghost use Rattle.runs.specs.Shapes.{clamped, shape_refusal};
 
 use super::refusal::Refusal;
 
-const WIDEST: usize = 16;
-
-const LONGEST: u64 = 100_000;
-
 // The number of variables, and the longest stay in ticks.
 #[derive(Clone, Copy, PartialEq, Eq, Debug)]
 pub struct Shape {
@@ -18,14 +14,21 @@ pub struct Shape {
 }
 
 impl Shape {
+    pub const WIDEST: usize = 16;
+
+    pub const LONGEST: u64 = 100_000;
+
+    // The most states of any run, whatever its shape.
+    pub const MOST_STATES: usize = 4_096;
+
     // Tells beforehand whether a run can have this shape.
     pub fn check(self) -> Result<(), Refusal>
         ensures { result ≡ answer (shape_refusal self) }
     {
-        if self.width < 1 || self.width > WIDEST {
+        if !(1..=Shape::WIDEST).contains(&self.width) {
             return Err(Refusal::Width);
         }
-        if self.longest < 1 || self.longest > LONGEST {
+        if !(1..=Shape::LONGEST).contains(&self.longest) {
             return Err(Refusal::Stay);
         }
         Ok(())
@@ -36,8 +39,8 @@ impl Shape {
         ensures { result ≡ clamped self }
     {
         Shape {
-            width: self.width.clamp(1, WIDEST),
-            longest: self.longest.clamp(1, LONGEST),
+            width: self.width.clamp(1, Shape::WIDEST),
+            longest: self.longest.clamp(1, Shape::LONGEST),
         }
     }
 }
@@ -50,6 +53,7 @@ pub enum Mark {
 
 impl Mark {
     // Do feed and close refuse?
+    // Not `endures`, though both tell closed from open: they are two questions, which another mark may answer apart.
     pub fn ended(self) -> bool
         ensures { result ≡ ended self }
     {

@@ -1,5 +1,5 @@
 // Runs that are closed, and calls as data.
-use super::numbered::{PAIRS, SINGLES, close, feed, numbered};
+use super::numbered::{PAIRS, SINGLES, close, feed, numbered, offer};
 use super::steps::Act::{Close, Feed};
 use super::steps::{play, seen};
 use rows::Rows;
@@ -34,6 +34,10 @@ fn close_wants_a_state_and_an_open_run(rt: HostRuntime) {
     assert_eq!(rt; cells, [9, 1, 1, -2, -3]);
 }
 
+fn feeding(stay: i64, values: &[i64]) -> Call<'_> {
+    Call::Feed(offer(stay, values))
+}
+
 fn carry(rows: &mut Rows<'_>, call: Call<'_>) -> Result<(), u8> {
     numbered(carry_out(rows, call))
 }
@@ -43,12 +47,12 @@ fn calls_as_data_are_carried_out(rt: HostRuntime) {
     let mut cells = [-3; 3];
     let mut rows = Rows::start(&mut cells, SINGLES);
     assert_eq!(rt; carry(&mut rows, Call::Close), Err(14));
-    assert_eq!(rt; carry(&mut rows, Call::Feed(10, &[1])), Err(11));
-    assert_eq!(rt; carry(&mut rows, Call::Feed(9, &[1])), Ok(()));
+    assert_eq!(rt; carry(&mut rows, feeding(10, &[1])), Err(11));
+    assert_eq!(rt; carry(&mut rows, feeding(9, &[1])), Ok(()));
     assert_eq!(rt; seen(&rows), (1, Some(9), Some(1), 1));
     assert_eq!(rt; carry(&mut rows, Call::Close), Ok(()));
     assert_eq!(rt; marks(&rows), (true, true));
-    assert_eq!(rt; carry(&mut rows, Call::Feed(9, &[1])), Err(10));
+    assert_eq!(rt; carry(&mut rows, feeding(9, &[1])), Err(10));
     assert_eq!(rt; cells, [9, 1, -3]);
 }
 
@@ -56,12 +60,12 @@ fn calls_as_data_are_carried_out(rt: HostRuntime) {
 fn a_list_of_calls_leaves_exactly_the_kept_states(rt: HostRuntime) {
     let calls = [
         Call::Close,
-        Call::Feed(9, &[1]),
-        Call::Feed(10, &[2]),
-        Call::Feed(8, &[-3]),
-        Call::Feed(7, &[4]),
+        feeding(9, &[1]),
+        feeding(10, &[2]),
+        feeding(8, &[-3]),
+        feeding(7, &[4]),
         Call::Close,
-        Call::Feed(6, &[5]),
+        feeding(6, &[5]),
     ];
     let mut cells = [-3; 5];
     assert_eq!(rt; Rows::record(&mut cells, SINGLES, &calls), 2);
@@ -84,7 +88,7 @@ fn a_closed_run_refuses_every_state_for_its_end(rt: HostRuntime) -> Result<(), F
     feed(&mut rows, 4, &[50, 60])?;
     close(&mut rows)?;
     for (stay, values, need) in cases {
-        assert_eq!(rt; rows.need(stay, values), need);
+        assert_eq!(rt; rows.need(offer(stay, values)), need);
         assert_eq!(rt; feed(&mut rows, stay, values), Err(10));
     }
     assert_eq!(rt; seen(&rows), (1, Some(4), Some(50), 1));

@@ -1,6 +1,6 @@
 // Records fed from a file, with each fault as its state, number and place.
-use records::Fields;
-use runfiles::feed_record;
+use records::{Fields, Refusal};
+use runfiles::{RunFault, feed_record};
 use runs::Recorder;
 use std::test::Fail;
 
@@ -12,18 +12,19 @@ pub struct Fault {
     pub place: usize,
 }
 
-pub fn feed_next<R: Recorder>(fields: &mut Fields<'_>, recorder: &mut R) -> Result<bool, Fault> {
-    match feed_record(fields, recorder) {
-        Ok(fed) => Ok(fed),
-        Err(fault) => {
-            let refusal = fault.refusal();
-            Err(Fault {
-                state: fault.state,
-                number: refusal.number,
-                place: refusal.place,
-            })
+impl From<RunFault> for Fault {
+    fn from(fault: RunFault) -> Fault {
+        let refusal = Refusal::from(fault);
+        Fault {
+            state: fault.state,
+            number: refusal.number,
+            place: refusal.place,
         }
     }
+}
+
+pub fn feed_next<R: Recorder>(fields: &mut Fields<'_>, recorder: &mut R) -> Result<bool, Fault> {
+    Ok(feed_record(fields, recorder)?)
 }
 
 pub fn refused(state: usize, number: u8, place: usize) -> Result<bool, Fault> {
@@ -37,6 +38,6 @@ pub fn refused(state: usize, number: u8, place: usize) -> Result<bool, Fault> {
 pub fn skip_header(fields: &mut Fields<'_>) -> Result<(), Fail> {
     match fields.header() {
         Ok(_) => Ok(()),
-        Err(fault) => Err(Fail::new(fault.refusal().number)),
+        Err(fault) => Err(Fail::new(Refusal::from(fault).number)),
     }
 }

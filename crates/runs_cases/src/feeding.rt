@@ -1,5 +1,5 @@
 // States that are taken and refused, and the cells then.
-use super::numbered::{PAIRS, feed};
+use super::numbered::{PAIRS, feed, offer};
 use rows::Rows;
 use runs::Recorder;
 use std::test::Fail;
@@ -19,7 +19,7 @@ fn offered(stay: i64, values: &[i64]) -> Result<Outcome, Fail> {
     let mut cells = [-1, -2, -3, -4, -5, -6, -7];
     let mut rows = Rows::start(&mut cells, PAIRS);
     feed(&mut rows, 4, &[50, 60])?;
-    let need = rows.need(stay, values);
+    let need = rows.need(offer(stay, values));
     let answer = feed(&mut rows, stay, values);
     let count = rows.count();
     let free = rows.free();

@@ -1,5 +1,5 @@
 // Runs that fill up.
-use super::numbered::{PAIRS, SINGLES, feed};
+use super::numbered::{PAIRS, SINGLES, feed, offer};
 use rows::Rows;
 use runs::{Recorder, Shape};
 use std::process::Abort;
@@ -50,7 +50,7 @@ fn a_full_run_refuses_for_room_last(rt: HostRuntime) -> Result<(), Fail> {
     let mut rows = Rows::start(&mut cells, PAIRS);
     feed(&mut rows, 4, &[50, 60])?;
     for (stay, values, need, number) in cases {
-        assert_eq!(rt; rows.need(stay, values), need);
+        assert_eq!(rt; rows.need(offer(stay, values)), need);
         assert_eq!(rt; feed(&mut rows, stay, values), Err(number));
         assert_eq!(rt; (rows.count(), rows.free()), (1, 2));
     }
@@ -79,7 +79,7 @@ fn the_widest_state_takes_17_cells(rt: HostRuntime) {
     assert_eq!(rt; feed(&mut rows, 1, &WIDE[0..15]), Err(9));
     assert_eq!(rt; feed(&mut rows, 1, &[0; 17]), Err(9));
     assert_eq!(rt; feed(&mut rows, 100_001, &WIDE), Err(11));
-    assert_eq!(rt; rows.need(100_000, &WIDE), 17);
+    assert_eq!(rt; rows.need(offer(100_000, &WIDE)), 17);
     assert_eq!(rt; feed(&mut rows, 100_000, &WIDE), Ok(()));
     assert_eq!(rt; feed(&mut rows, 1, &WIDE), Err(13));
     assert_eq!(rt; rows.free(), 2);
@@ -90,7 +90,7 @@ fn the_widest_state_takes_17_cells(rt: HostRuntime) {
 // Offers states to a run that keeps 4,096 of them.
 fn check_brimful<R: Recorder>(rt: &impl Abort, recorder: &mut R) {
     assert_eq!(rt; (recorder.count(), recorder.free()), (4_096, 0));
-    assert_eq!(rt; recorder.need(9, &[-6]), 2);
+    assert_eq!(rt; recorder.need(offer(9, &[-6])), 2);
     assert_eq!(rt; feed(recorder, 9, &[-6]), Err(13));
     assert_eq!(rt; feed(recorder, 10, &[-6]), Err(11));
     assert_eq!(rt; feed(recorder, 9, &[]), Err(9));

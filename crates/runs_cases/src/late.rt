@@ -1,5 +1,5 @@
 // Late views of a run.
-use super::numbered::{SINGLES, feed};
+use super::numbered::{SINGLES, feed, offer};
 use super::steps::Act::{Close, Feed};
 use super::steps::{Seen, feed_three, play_from, seen};
 use rows::Rows;
@@ -12,8 +12,14 @@ use views::Late;
 fn check_passed_on<R: Recorder>(rt: &impl Abort, view: &R) {
     assert_eq!(rt; (view.shape().width, view.shape().longest), (1, 9));
     assert_eq!(rt; (view.mark().ended(), view.free()), (false, 6));
-    assert_eq!(rt; (view.need(9, &[1]), view.need(10, &[1])), (2, 0));
-    assert_eq!(rt; (view.need(9, &[]), view.need(9, &[i64::MIN])), (0, 0));
+    assert_eq!(rt;
+        (view.need(offer(9, &[1])), view.need(offer(10, &[1]))),
+        (2, 0)
+    );
+    assert_eq!(rt;
+        (view.need(offer(9, &[])), view.need(offer(9, &[i64::MIN]))),
+        (0, 0)
+    );
     assert_eq!(rt; (view.stay(3), view.value(0, 1)), (None, None));
     assert_eq!(rt; view.stay(usize::MAX), None);
     assert_eq!(rt; view.value(usize::MAX, usize::MAX), None);

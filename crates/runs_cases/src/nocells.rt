@@ -3,7 +3,7 @@ ghost use Rattle.std.specs.Prelude.{◌≡◌, [], pos};
 ghost use Rattle.std.specs.Int.{IsInRange};
 ghost use Rattle.runs_cases.specs.NoCells.{cell_need, no_states, none_priced, none_sound};
 
-use runs::{Mark, Recorder, Refusal, Shape};
+use runs::{Mark, Offer, Recorder, Refusal, Shape};
 
 #[derive(Drop)]
 pub struct NoCells {
@@ -33,7 +33,7 @@ impl Recorder for NoCells {
 
     ghost cells = { λ _. [] };
 
-    ghost written = { λ _ _ _. [] };
+    ghost written = { λ _ _. [] };
 
     ghost place = { λ _. 0 };
 
@@ -63,8 +63,8 @@ impl Recorder for NoCells {
         0
     }
 
-    fn need(&self, stay: i64, values: &[i64]) -> usize {
-        match self.shape.unlawful(Self::LARGEST, stay, values) {
+    fn need(&self, offer: Offer<'_>) -> usize {
+        match self.shape.unlawful(Self::LARGEST, offer) {
             Some(_) => 0,
             None => 1,
         }
@@ -78,11 +78,9 @@ impl Recorder for NoCells {
         None
     }
 
-    fn feed(&mut self, stay: i64, values: &[i64]) -> Result<(), Refusal> {
-        match self.shape.unlawful(Self::LARGEST, stay, values) {
-            Some(refusal) => Err(refusal),
-            None => Err(Refusal::Full),
-        }
+    fn feed(&mut self, offer: Offer<'_>) -> Result<(), Refusal> {
+        let unlawful = self.shape.unlawful(Self::LARGEST, offer);
+        Err(unlawful.unwrap_or(Refusal::Full))
     }
 
     fn close(&mut self) -> Result<(), Refusal> {

@@ -1,5 +1,5 @@
 // Two shapes, and calls with each refusal as its number.
-use runs::{Recorder, Refusal, Shape};
+use runs::{Offer, Recorder, Refusal, Shape};
 
 pub const SINGLES: Shape = Shape {
     width: 1,
@@ -12,14 +12,15 @@ pub const PAIRS: Shape = Shape {
 };
 
 pub fn numbered(answer: Result<(), Refusal>) -> Result<(), u8> {
-    match answer {
-        Ok(()) => Ok(()),
-        Err(refusal) => Err(refusal.number()),
-    }
+    answer.map_err(|refusal| refusal.number())
+}
+
+pub fn offer(stay: i64, values: &[i64]) -> Offer<'_> {
+    Offer { stay, values }
 }
 
 pub fn feed<R: Recorder>(recorder: &mut R, stay: i64, values: &[i64]) -> Result<(), u8> {
-    numbered(recorder.feed(stay, values))
+    numbered(recorder.feed(offer(stay, values)))
 }
 
 pub fn close<R: Recorder>(recorder: &mut R) -> Result<(), u8> {

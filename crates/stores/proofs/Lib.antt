@@ -1,4 +1,5 @@
 pub mod CellValues
 pub mod LawfulStates
 pub mod PastedCells
+pub mod WrittenState
 pub mod RecordedCalls

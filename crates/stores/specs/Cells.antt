@@ -1,9 +1,10 @@
 -- What the recorders with cells of their own share: which cells are free, what a state needs, and why their meaning is sound. Assumes nothing.
 use Rattle.std.specs.Prelude.{◌≡◌, ℕ, ◌+◌, ◌-◌, ◌≤◌, Bool, true, cond, ◌&&◌, List, [], ◌∷◌, length, ℤ, is_some, Some, None, Option, ◌==◌, nat_le, unsigned_abs, refl}
 use Rattle.std.specs.Int.{is_in_range}
-use Rattle.std.specs.List.{AllByRecursion}
+use Rattle.std.specs.List.{AllByRecursion, list_all}
 use Rattle.std.proofs.lemmas.Bool.{and_parts, leb-true, eqb-true}
 use Rattle.runs.specs.Feeding.{Priced, after, all_within, unlawful}
+use Rattle.runs.specs.Offers.{Offered}
 use Rattle.runs.specs.Runs.{Lawful, Meaning, State}
 use Rattle.runs.specs.declared.refusal.Refusal.{Refusal}
 use Rattle.runs.specs.declared.shape.Shape.{Shape}
@@ -18,8 +19,8 @@ abbrev pub free_after : Head → ℕ → ℕ → ℕ
 free_after h free need = cond (nat_le 4096 (h.count + 1)) 0 (free - need)
 
 -- an unlawful state needs no cell, any other those that are given
-abbrev pub need_of : Shape → ℕ → (ℤ → List ℤ → ℕ) → ℤ → List ℤ → ℕ
-need_of shape largest lawful stay values = after (unlawful shape largest stay values) 0 (lawful stay values)
+abbrev pub need_of : Shape → ℕ → (Offered → ℕ) → Offered → ℕ
+need_of shape largest lawful o = after (unlawful shape largest o) 0 (lawful o)
 
 -- what a head means, with the states that its cells hold
 abbrev pub head_meaning : Head → List State → Meaning
@@ -30,17 +31,16 @@ abbrev pub is_lawful : Shape → ℕ → State → Bool
 is_lawful shape largest s = is_in_range 1 shape.longest s.stay && (length s.values == shape.width && all_within largest s.values)
 
 abbrev pub are_lawful : Shape → ℕ → List State → Bool
-are_lawful shape largest [] = true
-are_lawful shape largest (s ∷ ss) = is_lawful shape largest s && are_lawful shape largest ss
+are_lawful shape largest ss = list_all (is_lawful shape largest) ss
 
 priced_at : (o : Option Refusal) (n : ℕ) → is_some o ≡ true → after o 0 n ≡ 0
 priced_at (Some r) n e = refl
 priced_at None n e = cc
 
-pub needs_priced : (shape : Shape) (largest : ℕ) (lawful : ℤ → List ℤ → ℕ) → ((stay : ℤ) (values : List ℤ) → 1 ≤ lawful stay values) → Priced shape largest (need_of shape largest lawful)
+pub needs_priced : (shape : Shape) (largest : ℕ) (lawful : Offered → ℕ) → ((o : Offered) → 1 ≤ lawful o) → Priced shape largest (need_of shape largest lawful)
 needs_priced shape largest lawful some = record {
-  none = λ stay values e. priced_at (unlawful shape largest stay values) (lawful stay values) e;
-  some = λ stay values e. rw e (some stay values);
+  none = λ o e. priced_at (unlawful shape largest o) (lawful o) e;
+  some = λ o e. rw e (some o);
 }
 
 pub magnitudes_lawful : (largest : ℕ) (vs : List ℤ) → all_within largest vs ≡ true → AllByRecursion (λ v. unsigned_abs v ≤ largest) vs

@@ -7,7 +7,7 @@ use runs::{Mark, Shape};
 #[derive(Clone, Copy)]
 pub struct Head {
     pub shape: Shape,
-    // How many states are kept, and in how many cells.
+    // How many states are kept, and in how many cells: the cells are the caller's and stay lent, so the numbers stand beside them.
     pub count: usize,
     pub used: usize,
     pub mark: Mark,

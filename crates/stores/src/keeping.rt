@@ -1,14 +1,13 @@
 // What a head answers of its cells, and what it refuses.
 ghost use Rattle.std.specs.Prelude.{◌≡◌, List, [], length, unsigned_abs};
 ghost use Rattle.runs.specs.Feeding.{answer, closed, close_refusal, feed_refusal};
+ghost use Rattle.runs.specs.Offers.{told};
 ghost use Rattle.runs.specs.Runs.{State};
 ghost use Rattle.runs.specs.Shapes.{begun};
 ghost use Rattle.stores.specs.Cells.{free_of, head_meaning};
 
 use super::head::Head;
-use runs::{Mark, Refusal, Shape};
-
-const MOST_STATES: usize = 4096;
+use runs::{Mark, Offer, Refusal, Shape};
 
 impl Head {
     // An open run without states.
@@ -29,7 +28,7 @@ impl Head {
     pub fn free(self, cells: usize) -> usize
         ensures { result ≡ free_of self cells }
     {
-        if self.count >= MOST_STATES {
+        if self.count >= Shape::MOST_STATES {
             0
         } else {
             cells.saturating_sub(self.used)
@@ -42,15 +41,14 @@ impl Head {
         largest: i64,
         free: usize,
         need: usize,
-        stay: i64,
-        values: &[i64],
+        offer: Offer<'_>,
     ) -> Option<Refusal>
-        ensures { result ≡ feed_refusal (unsigned_abs largest) free need (head_meaning self []) stay values.now }
+        ensures { result ≡ feed_refusal (unsigned_abs largest) free need (head_meaning self []) (told offer.entry) }
     {
         if self.mark.ended() {
             return Some(Refusal::Ended);
         }
-        if let Some(refusal) = self.shape.unlawful(largest, stay, values) {
+        if let Some(refusal) = self.shape.unlawful(largest, offer) {
             return Some(refusal);
         }
         if need > free {

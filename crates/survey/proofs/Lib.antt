@@ -1,5 +1,5 @@
-pub mod Appending
 pub mod FedRuns
-pub mod StateSums
 pub mod WholeFile
+pub mod PairedLines
 pub mod Widening
+pub mod StateSums

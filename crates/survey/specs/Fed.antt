@@ -7,7 +7,7 @@ use Rattle.rows.specs.Rows.{row_largest, row_need}
 use Rattle.runfiles.specs.Offers.{answer_to, meaning_after}
 use Rattle.runfiles.specs.declared.fault.RunFault.{RunFault}
 
--- the cells that rows have free, of so many, with the states that they keep
+-- the cells that rows have free, of so many: each state that they keep fills a row, and 4096 states are the most
 abbrev pub rows_free : ℕ → Meaning → ℕ
 rows_free cells m = cond (nat_le 4096 (length m.run.states)) 0 (cells - length m.run.states * (m.run.shape.width + 1))
 

@@ -1,7 +1,6 @@
 -- The lines that say what a run file holds, each ended by CRLF. Assumes nothing.
-use Rattle.std.specs.Prelude.{ℕ, Bool, cond, List, [], ◌∷◌, ◌++◌, Ok, Err, codes, decimal, Result, ◌==◌}
-use Rattle.std.specs.List.{flat_map}
-use Rattle.std.specs.Fmt.{signed_decimal}
+use Rattle.std.specs.Prelude.{ℕ, cond, List, [], ◌∷◌, ◌++◌, Some, None, Ok, Err, codes, decimal, Option, Result}
+use Rattle.std.specs.List.{flat_map, zip}
 use Rattle.records.specs.Bytes.{comma, quote}
 use Rattle.records.specs.Headers.{holds}
 use Rattle.records.specs.Refusals.{refusal_text}
@@ -9,6 +8,7 @@ use Rattle.records.specs.declared.fault.Refusal.{Refusal}
 use Rattle.runfiles.specs.Faults.{refusal_of}
 use Rattle.runfiles.specs.declared.fault.RunFault.{RunFault}
 use Rattle.survey.specs.Surveys.{Surveyed, survey_of}
+use Rattle.survey.specs.Ranges.{range_text}
 use Rattle.survey.specs.declared.range.Range.{Range}
 use Rattle.survey.specs.declared.summary.Summary.{Summary}
 
@@ -22,25 +22,24 @@ column_names ns = flat_map (λ n. comma ∷ field_text n) ns
 abbrev pub crlf : List ℕ
 crlf = codes "\r\n"
 
--- a column's name and the least and the greatest of its values; nothing stands for them where there are no states
-abbrev pub range_text : Bool → Range → List ℕ
-range_text none r = cond none (codes ",,\r\n") (codes "," ++ (signed_decimal r.least ++ (codes "," ++ (signed_decimal r.greatest ++ crlf))))
+-- the range of a column's values; nothing stands for its ends where there are no states
+abbrev pub range_end : Option Range → List ℕ
+range_end None = codes ",,\r\n"
+range_end (Some r) = codes "," ++ (range_text r ++ crlf)
 
-abbrev pub range_line : Bool → List ℕ → Range → List ℕ
-range_line none name r = field_text name ++ range_text none r
+abbrev pub range_line : List ℕ → Option Range → List ℕ
+range_line name r = field_text name ++ range_end r
 
-abbrev pub range_lines : Bool → List (List ℕ) → List Range → List ℕ
-range_lines none [] rs = []
-range_lines none (n ∷ ns) [] = []
-range_lines none (n ∷ ns) (r ∷ rs) = range_line none n r ++ range_lines none ns rs
+abbrev pub range_lines : List (List ℕ) → List (Option Range) → List ℕ
+range_lines ns rs = flat_map (λ p. range_line p.0 p.1) (zip ns rs)
 
 -- the states, their ticks, and the rows that keep them: the free cells, all cells, and the longest stay
 abbrev pub sum_lines : Summary → ℕ → List ℕ
 sum_lines s free =
-    codes "\r\nstates," ++ (decimal s.states ++ (codes "\r\nticks," ++ (decimal s.ticks ++ (codes "\r\nrows," ++ (decimal free ++ codes ",16384,100000\r\n")))))
+    codes "\r\nstates," ++ (decimal s.states ++ (codes "\r\nticks," ++ (decimal s.ticks ++ (codes "\r\nrows," ++ (decimal free ++ (codes "," ++ (decimal 16384 ++ (codes "," ++ (decimal 100000 ++ crlf)))))))))
 
 abbrev pub held_lines : Surveyed → List ℕ
-held_lines s = codes "columns" ++ column_names s.names ++ sum_lines s.summary s.free ++ range_lines (s.summary.states == 0) s.names s.summary.ranges
+held_lines s = codes "columns" ++ column_names s.names ++ sum_lines s.summary s.free ++ range_lines s.names s.summary.ranges
 
 abbrev pub refused_line : Refusal → List ℕ
 refused_line r = codes "refused," ++ (refusal_text r ++ crlf)

@@ -1,12 +1,12 @@
 -- The sums over the states of a run. Assumes nothing.
 use Rattle.std.specs.Prelude.{ℕ, ◌+◌, List, [], replicate, ℤ, Some, None, fold, Option}
 use Rattle.runs.specs.Runs.{State}
-use Rattle.survey.specs.Ranges.{no_range, widened}
+use Rattle.survey.specs.Ranges.{widened}
 use Rattle.survey.specs.declared.summary.Summary.{Summary}
 
 -- the number of states, their ticks in all, and the ranges of the sixteen columns that there may be
 abbrev pub no_summary : Summary
-no_summary = record { states = 0; ticks = 0; ranges = replicate 16 no_range }
+no_summary = record { states = 0; ticks = 0; ranges = replicate 16 None }
 
 abbrev pub with_state : Summary → State → Summary
 with_state s state = record { states = s.states + 1; ticks = s.ticks + state.stay; ranges = widened s.ranges state.values }

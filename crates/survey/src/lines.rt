@@ -1,113 +1,107 @@
 // The statement of what a run file holds, in lines that CRLF ends.
-ghost use Rattle.std.specs.Prelude.{◌≡◌, Bool, ◌++◌, length, IfOk, string_bytes, OnOk, ◌==◌};
-ghost use Rattle.records.specs.Told.{names};
-ghost use Rattle.survey.specs.Statements.{field_text, column_names, range_text, range_line, range_lines, sum_lines, held_lines, refused_line, statement_by, statement_of};
+ghost use Rattle.std.specs.Prelude.{◌≡◌, ◌++◌, length, map, IfOk, string_bytes, OnOk};
+ghost use Rattle.survey.specs.Statements.{column_names, field_text, held_lines, range_end, range_line, range_lines, refused_line, statement_by, statement_of, sum_lines};
 ghost use Rattle.survey.specs.Surveys.{survey_of};
 ghost use Rattle.survey.specs.Told.{surveyed};
 
 use super::range::Range;
+use super::summary::Summary;
 use super::whole::Survey;
-use records::{Header, Refusal};
+use records::Refusal;
+use runs::Shape;
 use std::alloc::{AllocError, Global};
 
 // The cells that a run file is kept in.
 const CELLS: usize = 16_384;
 
-// A name as a field of a record: in quotes where a comma stands in it. It has no quote.
-fn push_name(out: &mut Vec<u8>, name: &[u8]) -> Result<(), AllocError>
-    ensures { OnOk result (out.new.items ≡ out.old.items ++ field_text name.now) }
-{
-    if name.contains(&b',') {
-        out.push(b'"')?;
-        out.extend_from_slice(name)?;
-        out.push(b'"')?;
-        Ok(())
-    } else {
-        out.extend_from_slice(name)
-    }
-}
-
-fn push_columns(out: &mut Vec<u8>, header: &Header) -> Result<(), AllocError>
-    ensures { OnOk result (out.new.items ≡ out.old.items ++ column_names (names header.now)) }
-{
-    for column in 0..header.width() {
-        let Some(name) = header.name(column) else {
-            return Ok(());
-        };
-        out.push(b',')?;
-        push_name(out, name)?;
-    }
-    Ok(())
-}
-
-fn range_text(heap: Global, none: bool, range: Range) -> Result<String, AllocError>
-    ensures { IfOk result (λ s. string_bytes s ≡ range_text none range) }
-{
-    if none {
-        String::from_str(heap, ",,\r\n")
-    } else {
-        let least = range.least;
-        let greatest = range.greatest;
-        format!(in heap; ",{least},{greatest}\r\n")
-    }
-}
-
-fn push_range(
-    out: &mut Vec<u8>,
+// The lines so far, and the heap that their texts come from.
+#[derive(Drop)]
+struct Lines {
     heap: Global,
-    none: bool,
-    name: &[u8],
-    range: Range,
-) -> Result<(), AllocError>
-    ensures { OnOk result (out.new.items ≡ out.old.items ++ range_line none name.now range) }
-{
-    push_name(out, name)?;
-    let text = range_text(heap, none, range)?;
-    out.extend_from_slice(text.as_bytes())?;
-    Ok(())
+    bytes: Vec<u8>,
 }
 
-fn sum_text(heap: Global, survey: &Survey) -> Result<String, AllocError>
-    ensures { IfOk result (λ s. string_bytes s ≡ sum_lines survey.now.summary survey.now.free) }
-{
-    let states = survey.summary.states;
-    let ticks = survey.summary.ticks;
-    let free = survey.free;
-    format!(in heap; "\r\nstates,{states}\r\nticks,{ticks}\r\nrows,{free},16384,100000\r\n")
-}
-
-fn refused_text(heap: Global, refusal: Refusal) -> Result<String, AllocError>
-    ensures { IfOk result (λ s. string_bytes s ≡ refused_line refusal) }
-{
-    format!(in heap; "refused,{refusal}\r\n")
-}
-
-fn push_ranges(out: &mut Vec<u8>, heap: Global, survey: &Survey) -> Result<(), AllocError>
-    ensures { OnOk result (out.new.items ≡ out.old.items ++ range_lines (survey.now.summary.states == 0) (names survey.now.header) survey.now.summary.ranges) }
-{
-    let none = survey.summary.states == 0;
-    for column in 0..survey.header.width() {
-        let Some(name) = survey.header.name(column) else {
-            return Ok(());
-        };
-        let Some(range) = survey.summary.range(column) else {
-            return Ok(());
-        };
-        push_range(out, heap, none, name, range)?;
+impl Lines {
+    // A name as a field of a record: in quotes where a comma stands in it. It has no quote.
+    fn push_name(&mut self, name: &[u8]) -> Result<(), AllocError>
+        ensures { OnOk result (self.new.bytes.items ≡ self.old.bytes.items ++ field_text name.now) }
+    {
+        if name.contains(&b',') {
+            self.bytes.push(b'"')?;
+            self.bytes.extend_from_slice(name)?;
+            self.bytes.push(b'"')?;
+            Ok(())
+        } else {
+            self.bytes.extend_from_slice(name)
+        }
     }
-    Ok(())
+
+    fn push_columns(&mut self, names: &[&[u8]]) -> Result<(), AllocError>
+        ensures { OnOk result (self.new.bytes.items ≡ self.old.bytes.items ++ column_names (map (λ x. x.now) names.now)) }
+    {
+        for name in names {
+            self.bytes.push(b',')?;
+            self.push_name(name)?;
+        }
+        Ok(())
+    }
+
+    // The states, their ticks, and the cells that are left.
+    fn push_sums(&mut self, survey: &Survey) -> Result<(), AllocError>
+        ensures { OnOk result (self.new.bytes.items ≡ self.old.bytes.items ++ sum_lines survey.now.summary survey.now.free) }
+    {
+        let Summary { states, ticks, .. } = survey.summary;
+        let free = survey.free;
+        let longest = Shape::LONGEST;
+        let sums = format!(in self.heap;
+            "\r\nstates,{states}\r\nticks,{ticks}\r\nrows,{free},{CELLS},{longest}\r\n"
+        )?;
+        self.bytes.extend_from_slice(sums.as_bytes())
+    }
+
+    // A column's name, and the range of its values, if it has any.
+    fn push_range(&mut self, name: &[u8], range: Option<Range>) -> Result<(), AllocError>
+        ensures { OnOk result (self.new.bytes.items ≡ self.old.bytes.items ++ range_line name.now range) }
+    {
+        self.push_name(name)?;
+        match range {
+            Some(range) => {
+                let text = format!(in self.heap; ",{range}\r\n")?;
+                self.bytes.extend_from_slice(text.as_bytes())
+            }
+            None => self.bytes.extend_from_slice(b",,\r\n"),
+        }
+    }
+
+    fn push_ranges(&mut self, names: &[&[u8]], ranges: &[Option<Range>]) -> Result<(), AllocError>
+        ensures { OnOk result (self.new.bytes.items ≡ self.old.bytes.items ++ range_lines (map (λ x. x.now) names.now) ranges.now) }
+    {
+        for (name, range) in names.iter().zip(ranges) {
+            self.push_range(name, *range)?;
+        }
+        Ok(())
+    }
 }
 
 fn held(heap: Global, survey: &Survey) -> Result<Vec<u8>, AllocError>
     ensures { IfOk result (λ v. v.items ≡ held_lines (surveyed survey.now)) }
 {
-    let mut out = Vec::new(heap);
-    out.extend_from_slice(b"columns")?;
-    push_columns(&mut out, &survey.header)?;
-    let sums = sum_text(heap, survey)?;
-    out.extend_from_slice(sums.as_bytes())?;
-    push_ranges(&mut out, heap, survey)?;
-    Ok(out)
+    let mut lines = Lines {
+        heap,
+        bytes: Vec::new(heap),
+    };
+    let names = survey.header.names();
+    lines.bytes.extend_from_slice(b"columns")?;
+    lines.push_columns(names)?;
+    lines.push_sums(survey)?;
+    lines.push_ranges(names, &survey.summary.ranges)?;
+    Ok(lines.bytes)
+}
+
+fn refused(heap: Global, refusal: Refusal) -> Result<Vec<u8>, AllocError>
+    ensures { IfOk result (λ v. v.items ≡ refused_line refusal) }
+{
+    Ok(format!(in heap; "refused,{refusal}\r\n")?.into_bytes())
 }
 
 // The statement of a run file that is kept in these cells.
@@ -116,7 +110,7 @@ fn statement_in(heap: Global, bytes: &[u8], cells: &mut [i32]) -> Result<Vec<u8>
 {
     match Survey::of(bytes, cells) {
         Ok(survey) => held(heap, &survey),
-        Err(fault) => Ok(refused_text(heap, fault.refusal())?.into_bytes()),
+        Err(fault) => refused(heap, fault.into()),
     }
 }
 

@@ -1,22 +1,24 @@
 // The range of some numbers.
-ghost use Rattle.std.specs.Prelude.{◌≡◌};
-ghost use Rattle.survey.specs.Ranges.{no_range, with_number};
+ghost use Rattle.std.specs.Prelude.{◌≡◌, Some};
+ghost use Rattle.survey.specs.Ranges.{range_of, range_text, with_number};
 
-// The least and the greatest number. Before the first one they are the largest and the smallest that there are.
-#[derive(Clone, Copy)]
+use std::fmt;
+
+// The least and the greatest number.
+#[derive(Clone, Copy, PartialEq, Eq, Debug)]
 pub struct Range {
     pub least: i64,
     pub greatest: i64,
 }
 
 impl Range {
-    // The range of no numbers.
-    pub fn new() -> Range
-        ensures { result ≡ no_range }
+    // The range of one number.
+    pub fn of(number: i64) -> Range
+        ensures { result ≡ range_of number }
     {
         Range {
-            least: i64::MAX,
-            greatest: i64::MIN,
+            least: number,
+            greatest: number,
         }
     }
 
@@ -28,5 +30,13 @@ impl Range {
             least: self.least.min(number),
             greatest: self.greatest.max(number),
         }
+    }
+}
+
+impl fmt::Display for Range {
+    ghost output = { λ r. Some (range_text r) };
+
+    fn fmt<W: fmt::Write>(&self, f: &mut fmt::Formatter<W>) -> fmt::Result {
+        write!(f, "{},{}", self.least, self.greatest)
     }
 }

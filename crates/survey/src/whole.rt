@@ -11,16 +11,13 @@ use rows::Rows;
 use runfiles::RunFault;
 use runs::{Recorder, Shape};
 
-// The longest stay that a run file may have, in ticks.
-const LONGEST_STAY: u64 = 100_000;
-
-// A variable for each column.
+// A variable for each column, and stays of any lawful length.
 fn shape_of(header: &Header) -> Shape
     ensures { result ≡ file_shape (names header.now) }
 {
     Shape {
         width: header.width(),
-        longest: LONGEST_STAY,
+        longest: Shape::LONGEST,
     }
 }
 

@@ -1,16 +1,16 @@
 -- The tokens of a text are tokens, and then its end, which stands at its length.
 use Rattle.std.proofs.Common.{◌≡◌, ℕ, zero, suc, ◌+◌, ◌-◌, ◌<◌, ◌≤◌, Bool, true, false, cond, eqb, ltb, List, [], ◌∷◌, ◌++◌, length, get_or, drop, Some, None, Option, sym, refl, ap, ◌∙◌, ⊎_elim, arith, length-drop, ltb-false, ltb-true}
+use Rattle.std.specs.Char.{is_ascii_alphabetic, is_ascii_digit}
 use Rattle.std.specs.List.{AllByRecursion}
 use Rattle.std.proofs.lemmas.List.Sums.{prefix_len-le-length}
 use Rattle.std.proofs.lemmas.List.{get_or_past}
 use Rattle.std.proofs.lemmas.Bool.{cases_lt}
 use Rattle.std.proofs.lemmas.Bool.Decides.{nat_tests}
-use Rattle.tokens.specs.Classes.{holds, class_of}
+use Rattle.tokens.specs.Classes.{class_of, is_space}
 use Rattle.tokens.specs.Lexing.{Scan, closes, digits, end_at, figure, named, printables, scan, scan_by, spot_at, spots, spots_within, start, wide_by, wide_sign}
 use Rattle.tokens.specs.Tokens.{Spot, is_stop, stop}
 use Rattle.tokens.specs.declared.classes.Class.{Class}
 use Rattle.tokens.specs.declared.classes.Class.TheVariants as class
-use Rattle.tokens.specs.declared.spans.Kind.TheVariants.{Space, Letter, Digit}
 use Rattle.tokens.specs.declared.words.ConnectiveSign.{ConnectiveSign}
 use Rattle.tokens.proofs.Spots.{going}
 
@@ -62,7 +62,7 @@ stop_at : (text : List ℕ) (at : ℕ) (b : Bool) → ltb (start text at) (lengt
 stop_at text at true e within s = absurd (let z : true ≡ false = sym s ∙ rw e (scan_goes_on (drop (start text at) text)) in grind (arith, nat_tests))
 stop_at text at false e within s =
     let past : length text ≤ start text at = ltb-false (start text at) (length text) e in
-    let spaces = prefix_len-le-length (holds Space) (drop at text) in
+    let spaces = prefix_len-le-length is_space (drop at text) in
     let left = length-drop at text in
     let there : start text at ≡ length text = omega arith in
     rw e (ap (λ (i : ℕ). record { tok = stop; at = i }) there)
@@ -92,12 +92,12 @@ wide_within bs None e h = omega arith
 wide_within bs (Some x) e h = read_within bs 2 (grind (arith, nat_tests))
 
 -- a token ends within the text
-class_within : (k : Class) (bs : List ℕ) → 0 < length bs → (scan_by k bs).size ≤ length bs
+pub class_within : (k : Class) (bs : List ℕ) → 0 < length bs → (scan_by k bs).size ≤ length bs
 class_within class.Space bs h = omega arith
-class_within class.Letter bs h = prefix_len-le-length (holds Letter) bs
-class_within class.Digit bs h = prefix_len-le-length (holds Digit) bs
+class_within class.Letter bs h = prefix_len-le-length is_ascii_alphabetic bs
+class_within class.Digit bs h = prefix_len-le-length is_ascii_digit bs
 class_within class.Sign bs h =
-    let some = prefix_len-le-length (holds Digit) (drop 1 bs) in
+    let some = prefix_len-le-length is_ascii_digit (drop 1 bs) in
     let left = length-drop 1 bs in
     sized_by (eqb (digits (drop 1 bs)) 0) _ _ (length bs) (λ _. omega arith) (λ _. omega arith)
 class_within class.Brace bs h = sized_by (closes bs) _ _ (length bs) (λ e. let below = read_within bs (1 + printables (drop 1 bs)) (grind (arith, nat_tests)) in omega arith) (λ _. omega arith)
@@ -125,7 +125,7 @@ end_by text at true e within =
     let size = scan_within (drop (start text at) text) some in
     rw e (omega arith)
 end_by text at false e within =
-    let spaces = prefix_len-le-length (holds Space) (drop at text) in
+    let spaces = prefix_len-le-length is_space (drop at text) in
     let left = length-drop at text in
     rw e (omega arith)
 

@@ -1,26 +1,25 @@
 -- The tokens of a text one after the other: each but the end has a byte, so that as many as there are bytes, and the end, are all.
 use Rattle.std.proofs.Common.{◌≡◌, ℕ, zero, suc, ◌-◌, ◌<◌, ◌≤◌, Bool, true, false, cond, ltb, List, [], ◌∷◌, length, get_or, drop, Some, None, Option, refl, ap, arith, length-drop, ltb-true}
+use Rattle.std.specs.Char.{is_ascii_alphabetic, is_ascii_digit}
 use Rattle.std.specs.List.{prefix_len}
-use Rattle.tokens.specs.Classes.{holds, class_of}
+use Rattle.tokens.specs.Classes.{class_of}
 use Rattle.std.proofs.lemmas.Bool.Decides.{nat_tests}
 use Rattle.tokens.specs.Lexing.{scan, scan_by, letters, digits, wide_sign, wide_by, start, spot_at, end_at, spots_within, spots_from}
-use Rattle.tokens.specs.declared.spans.Kind.{Kind}
-use Rattle.tokens.specs.declared.spans.Kind.TheVariants.{Letter, Digit}
 use Rattle.tokens.specs.declared.words.ConnectiveSign.{ConnectiveSign}
 use Rattle.tokens.specs.Tokens.{Spot, is_stop}
 use Rattle.tokens.specs.declared.classes.Class.{Class}
 use Rattle.tokens.specs.declared.classes.Class.TheVariants as class
 
-letter_first : (b : ℕ) → class_of b ≡ class.Letter → holds Letter b ≡ true
+letter_first : (b : ℕ) → class_of b ≡ class.Letter → is_ascii_alphabetic b ≡ true
 letter_first b e = grind (arith, nat_tests)
 
-digit_first : (b : ℕ) → class_of b ≡ class.Digit → holds Digit b ≡ true
+digit_first : (b : ℕ) → class_of b ≡ class.Digit → is_ascii_digit b ≡ true
 digit_first b e = grind (arith, nat_tests)
 
 -- a run has a byte where its first byte is of its kind
-run_has_a_byte : (kind : Kind) (bs : List ℕ) → 0 < length bs → holds kind (get_or bs 0 0) ≡ true → 1 ≤ prefix_len (holds kind) bs
-run_has_a_byte kind [] h e = absurd (omega arith)
-run_has_a_byte kind (b ∷ bs) h e = rw e (omega arith)
+run_has_a_byte : (holds : ℕ → Bool) (bs : List ℕ) → 0 < length bs → holds (get_or bs 0 0) ≡ true → 1 ≤ prefix_len holds bs
+run_has_a_byte holds [] h e = absurd (omega arith)
+run_has_a_byte holds (b ∷ bs) h e = rw e (omega arith)
 
 wide_has_a_byte : (x : Option ConnectiveSign) → 1 ≤ (wide_by x).size
 wide_has_a_byte None = omega arith
@@ -49,8 +48,8 @@ scan_has_a_byte : (bs : List ℕ) → 0 < length bs → 1 ≤ (scan bs).size
 unfolding scan
 scan_has_a_byte bs h =
     class_has_a_byte (class_of (get_or bs 0 0)) bs
-    (λ e. run_has_a_byte Letter bs h (letter_first (get_or bs 0 0) e))
-    (λ e. run_has_a_byte Digit bs h (digit_first (get_or bs 0 0) e))
+    (λ e. run_has_a_byte is_ascii_alphabetic bs h (letter_first (get_or bs 0 0) e))
+    (λ e. run_has_a_byte is_ascii_digit bs h (digit_first (get_or bs 0 0) e))
 
 abbrev Going : List ℕ → ℕ → Type 0
 Going text at = (at < end_at text at) × (at < length text)

@@ -1,5 +1,6 @@
 -- How a text is cut into tokens: spaces are passed over, and each token is told from its first byte. Assumes nothing.
 use Rattle.std.specs.Prelude.{ℕ, zero, suc, ◌+◌, ◌-◌, Bool, cond, ◌&&◌, List, [], ◌∷◌, length, take, drop, Some, None, codes, Option, ◌==◌, nat_lt, slice_index}
+use Rattle.std.specs.Char.{is_ascii_alphabetic, is_ascii_digit}
 use Rattle.std.specs.Int.{is_in_range}
 use Rattle.std.specs.List.{prefix_len}
 use Rattle.std.specs.Str.{bytes_eq}
@@ -9,11 +10,10 @@ use Rattle.parts.specs.declared.kinds.Binary.TheVariants.{Add, Subtract, Multipl
 use Rattle.parts.specs.declared.kinds.Comparator.TheVariants.{Less, AtMost, Equal, AtLeast, Greater}
 use Rattle.parts.specs.declared.kinds.Statistic.TheVariants.{Min, Max, Sum, Count}
 use Rattle.parts.specs.declared.kinds.Unary.TheVariants as unaries
-use Rattle.tokens.specs.Classes.{holds, class_of}
+use Rattle.tokens.specs.Classes.{class_of, is_printable, is_space}
 use Rattle.tokens.specs.Tokens.{Tok, Spot, is_stop, mark, change, comparator, unary, binary, statistic, prefix, connective, numeral, variable, stray, stop}
 use Rattle.tokens.specs.declared.classes.Class.{Class}
 use Rattle.tokens.specs.declared.classes.Class.TheVariants as class
-use Rattle.tokens.specs.declared.spans.Kind.TheVariants.{Space, Letter, Digit, Printable}
 use Rattle.tokens.specs.declared.words.ConnectiveSign.{ConnectiveSign}
 use Rattle.tokens.specs.declared.words.ConnectiveSign.TheVariants as connectives
 use Rattle.tokens.specs.declared.words.PrefixSign.TheVariants as prefixes
@@ -70,23 +70,27 @@ single t = record { tok = t; size = 1 }
 
 -- how many bytes of a kind stand in front
 abbrev pub letters : List ℕ → ℕ
-letters bs = prefix_len (holds Letter) bs
+letters bs = prefix_len is_ascii_alphabetic bs
 
 abbrev pub digits : List ℕ → ℕ
-digits bs = prefix_len (holds Digit) bs
+digits bs = prefix_len is_ascii_digit bs
 
 abbrev pub printables : List ℕ → ℕ
-printables bs = prefix_len (holds Printable) bs
+printables bs = prefix_len is_printable bs
 
 abbrev pub name_scan : List ℕ → Scan
 name_scan bs = record { tok = named (take (letters bs) bs); size = letters bs }
 
+-- a numeral of so many bytes
+abbrev pub figure_scan : ℕ → List ℕ → Scan
+figure_scan size bs = record { tok = figure (take size bs); size = size }
+
 abbrev pub digits_scan : List ℕ → Scan
-digits_scan bs = record { tok = figure (take (digits bs) bs); size = digits bs }
+digits_scan bs = figure_scan (digits bs) bs
 
 -- a sign begins a numeral only if a digit follows
 abbrev pub sign_scan : List ℕ → Scan
-sign_scan bs = cond (digits (drop 1 bs) == 0) (single stray) (record { tok = figure (take (1 + digits (drop 1 bs)) bs); size = 1 + digits (drop 1 bs) })
+sign_scan bs = cond (digits (drop 1 bs) == 0) (single stray) (figure_scan (1 + digits (drop 1 bs)) bs)
 
 -- the name of a variable has 1 to 64 bytes, and a brace closes it
 abbrev pub closes : List ℕ → Bool
@@ -138,7 +142,7 @@ scan bs = scan_by (class_of (slice_index bs 0)) bs
 
 -- where the next token begins, from a place on: spaces are passed over
 abbrev pub start : List ℕ → ℕ → ℕ
-start text at = at + prefix_len (holds Space) (drop at text)
+start text at = at + prefix_len is_space (drop at text)
 
 -- the next token from a place on, and where it ends; behind the last one the text ends
 abbrev pub spot_at : List ℕ → ℕ → Spot

@@ -26,6 +26,7 @@ pub enum Class {
     Other,
 }
 
+// A table, so that a byte is told by one look-up; written out, since a constant's value calls no function.
 static CLASSES: [Class; 256] = [
     Class::Other,
     Class::Other,
@@ -285,6 +286,7 @@ static CLASSES: [Class; 256] = [
     Class::Other,
 ];
 
+// `as`: of `usize::from` the computed comparison of the table knows nothing.
 pub(crate) fn class_of(b: u8) -> Class
     ensures { result ≡ class_of b }
 {

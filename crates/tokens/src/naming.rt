@@ -1,48 +1,36 @@
 // What names, numerals and other tokens mean.
-ghost use Rattle.std.specs.Prelude.{◌≡◌};
-ghost use Rattle.std.specs.Str.{bytes_eq};
-ghost use Rattle.tokens.specs.Lexing.{figure, letter_named, magnitude_of, measure_named, named, sign_of};
+ghost use Rattle.std.specs.Prelude.{◌≡◌, slice_index};
+ghost use Rattle.tokens.specs.Lexing.{figure, letter_named, measure_named, named, sign_of};
 ghost use Rattle.tokens.specs.Told.{spot_of, tok_of};
 
-use super::spans::byte_at;
 use super::token::Token;
 use super::words::{ConnectiveSign, PrefixSign, Sign, Word};
 use parts::{Binary, Statistic, Unary};
 use records::Numeral;
 
-fn same(a: &[u8], b: &[u8]) -> bool
-    ensures { result ≡ bytes_eq a.now b.now }
-{
-    a == b
-}
+// The names of measures. A table and no match: a match on nine texts was tried, and its last arm stayed open.
+static MEASURES: [(&str, Word<'static>); 9] = [
+    ("abs", Word::Unary(Unary::Abs)),
+    ("sign", Word::Unary(Unary::Sign)),
+    ("add", Word::Binary(Binary::Add)),
+    ("subtract", Word::Binary(Binary::Subtract)),
+    ("multiply", Word::Binary(Binary::Multiply)),
+    ("min", Word::Statistic(Statistic::Min)),
+    ("max", Word::Statistic(Statistic::Max)),
+    ("sum", Word::Statistic(Statistic::Sum)),
+    ("count", Word::Statistic(Statistic::Count)),
+];
 
-fn measure_named(name: &[u8]) -> Word<'_>
+fn measure_named(name: &[u8]) -> Word<'static>
     ensures { tok_of result ≡ measure_named name.now }
 {
-    if same(name, b"abs") {
-        Word::Unary(Unary::Abs)
-    } else if same(name, b"sign") {
-        Word::Unary(Unary::Sign)
-    } else if same(name, b"add") {
-        Word::Binary(Binary::Add)
-    } else if same(name, b"subtract") {
-        Word::Binary(Binary::Subtract)
-    } else if same(name, b"multiply") {
-        Word::Binary(Binary::Multiply)
-    } else if same(name, b"min") {
-        Word::Statistic(Statistic::Min)
-    } else if same(name, b"max") {
-        Word::Statistic(Statistic::Max)
-    } else if same(name, b"sum") {
-        Word::Statistic(Statistic::Sum)
-    } else if same(name, b"count") {
-        Word::Statistic(Statistic::Count)
-    } else {
-        Word::Stray
-    }
+    MEASURES
+        .iter()
+        .find(|measure| name == measure.0.as_bytes())
+        .map_or(Word::Stray, |measure| measure.1)
 }
 
-fn letter_named<'a>(letter: u8) -> Word<'a>
+fn letter_named(letter: u8) -> Word<'static>
     ensures { tok_of result ≡ letter_named letter }
 {
     match letter {
@@ -56,39 +44,33 @@ fn letter_named<'a>(letter: u8) -> Word<'a>
 }
 
 // What a run of letters means.
-fn word_named(name: &[u8]) -> Word<'_>
+fn word_named(name: &[u8]) -> Word<'static>
     ensures { tok_of result ≡ named name.now }
 {
-    if name.len() == 1 {
-        letter_named(name[0])
-    } else {
-        measure_named(name)
+    match name {
+        [letter] => letter_named(*letter),
+        _ => measure_named(name),
     }
 }
 
-fn sign_of(byte: u8) -> Sign
-    ensures { result ≡ sign_of byte }
+fn sign_of(text: &[u8]) -> Sign
+    ensures { result ≡ sign_of (slice_index text.now 0) }
 {
-    match byte {
-        b'+' => Sign::Plus,
-        b'-' => Sign::Minus,
+    match text {
+        [b'+', ..] => Sign::Plus,
+        [b'-', ..] => Sign::Minus,
         _ => Sign::Unsigned,
     }
 }
 
-fn magnitude(numeral: Option<Numeral>) -> u64
-    ensures { result ≡ magnitude_of numeral }
-{
-    match numeral {
-        Some(n) => n.magnitude,
-        None => 0,
-    }
-}
-
-fn word_figured(text: &[u8]) -> Word<'_>
+// A numeral that was cut has a digit, so None does not come; 0 stands for it.
+fn word_figured(text: &[u8]) -> Word<'static>
     ensures { tok_of result ≡ figure text.now }
 {
-    Word::Numeral(sign_of(byte_at(text, 0)), magnitude(Numeral::read(text)))
+    Word::Numeral(
+        sign_of(text),
+        Numeral::read(text).map_or(0, |n| n.magnitude),
+    )
 }
 
 impl<'a> Token<'a> {

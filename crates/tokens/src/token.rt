@@ -5,8 +5,9 @@ ghost use Rattle.tokens.specs.Told.{seen, spot_of};
 use super::words::{ConnectiveSign, Punctuation};
 use parts::Comparator;
 
-// Each holds the index of its first byte. Names, numerals and variables are parts of the caller's text.
-#[derive(Clone, Copy)]
+// Names, numerals and variables are parts of the caller's text.
+// Each holds the index of its first byte. In each case, and no struct round the cases: callers match a token whole.
+#[derive(Clone, Copy, PartialEq, Eq, Debug)]
 pub enum Token<'a> {
     // A longest run of letters.
     Name(&'a [u8], usize),
@@ -34,8 +35,7 @@ pub struct Lexeme<'a> {
 
 impl<'a> Lexeme<'a> {
     pub(crate) fn single(token: Token<'a>) -> Lexeme<'a>
-        ensures answer { seen result ≡ record { spot = spot_of token.entry; size = 1 } }
-        ensures size { result.size ≡ 1 }
+        ensures { seen result ≡ record { spot = spot_of token.entry; size = 1 } }
     {
         Lexeme { token, size: 1 }
     }

@@ -1,7 +1,7 @@
 // What a token can be.
 use parts::{Binary, Comparator, Statistic, Unary};
 
-#[derive(Clone, Copy)]
+#[derive(Clone, Copy, PartialEq, Eq, Debug)]
 pub enum Punctuation {
     // ( and )
     Open,
@@ -13,7 +13,7 @@ pub enum Punctuation {
 }
 
 // What begins a prefix: ~, X, F and G.
-#[derive(Clone, Copy)]
+#[derive(Clone, Copy, PartialEq, Eq, Debug)]
 pub enum PrefixSign {
     Not,
     Next,
@@ -22,7 +22,7 @@ pub enum PrefixSign {
 }
 
 // What stands between two formulas: ∧, ∨, ⇒, ⇔ and U.
-#[derive(Clone, Copy)]
+#[derive(Clone, Copy, PartialEq, Eq, Debug)]
 pub enum ConnectiveSign {
     And,
     Or,
@@ -32,7 +32,7 @@ pub enum ConnectiveSign {
 }
 
 // What stands in front of a numeral's digits.
-#[derive(Clone, Copy)]
+#[derive(Clone, Copy, PartialEq, Eq, Debug)]
 pub enum Sign {
     Unsigned,
     Plus,
@@ -40,7 +40,7 @@ pub enum Sign {
 }
 
 // A token by what it means.
-#[derive(Clone, Copy)]
+#[derive(Clone, Copy, PartialEq, Eq, Debug)]
 pub enum Word<'a> {
     Punctuation(Punctuation),
     // d, the change of a measure.

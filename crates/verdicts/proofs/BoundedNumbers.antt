@@ -1,20 +1,14 @@
 -- A known number is within its bound. Assumes nothing.
-use Rattle.std.proofs.Common.{◌≡◌, ℕ, zero, suc, ◌+◌, ◌-◌, ◌*◌, ◌≤◌, Bool, true, false, cond, List, [], ◌∷◌, length, ℤ, pos, negsuc, ◌+ℤ◌, ◌*ℤ◌, neg_ℤ, nat_abs, Some, None, Option, refl, subst, mul-le-mul_right, suc-mul, mul-le-mul, arith}
-use lib.Signed.{lt_z}
+use Rattle.std.proofs.Common.{◌≡◌, ℕ, zero, suc, ◌+◌, ◌-◌, ◌*◌, ◌≤◌, Bool, true, false, cond, List, [], ◌∷◌, length, ℤ, ◌+ℤ◌, ◌*ℤ◌, neg_ℤ, nat_abs, Some, None, Option, mul-le-mul_right, suc-mul, mul-le-mul, arith}
 use Rattle.std.specs.List.{slice_get, AllByRecursion}
-use Rattle.std.specs.Int.{int_signum}
 use Rattle.std.specs.Option.{option_map}
-use Rattle.std.proofs.lemmas.Int.{ints}
 use Rattle.std.proofs.lemmas.Bool.{and_parts, leb-true}
 use Rattle.parts.specs.Bounds.{binary_bound, bound_of, most_bound, most_states, statistic_bound, unary_bound}
 use Rattle.parts.specs.Formulas.{Measure, numeral, variable, unary, binary, over}
 use Rattle.parts.specs.Limits.{lawful_measure, most_numeral}
 use Rattle.parts.specs.declared.kinds.Binary.{Binary}
-use Rattle.parts.specs.declared.kinds.Binary.TheVariants.{Add, Subtract, Multiply}
 use Rattle.parts.specs.declared.kinds.Statistic.{Statistic}
-use Rattle.parts.specs.declared.kinds.Statistic.TheVariants.{Min, Max, Sum, Count}
 use Rattle.parts.specs.declared.kinds.Unary.{Unary}
-use Rattle.parts.specs.declared.kinds.Unary.TheVariants.{Abs, Sign}
 use Rattle.runs.specs.Runs.{State, value_at}
 use Rattle.runs.specs.declared.shape.Mark.{Mark}
 use Rattle.verdicts.proofs.LawfulFormulas.{binary_parts, over_parts, unary_parts}
@@ -24,25 +18,13 @@ use Rattle.verdicts.specs.Tours.{tour, tour_at, within}
 use Rattle.verdicts.specs.Verdicts.{both, collect, value}
 
 magnitude_sum : (x y : ℤ) → nat_abs (x +ℤ y) ≤ nat_abs x + nat_abs y
-magnitude_sum (pos a) (pos b) = omega arith
-magnitude_sum (pos a) (negsuc b) = omega (arith, ints)
-magnitude_sum (negsuc a) (pos b) = omega (arith, ints)
-magnitude_sum (negsuc a) (negsuc b) = omega arith
+magnitude_sum x y = grind arith
 
 magnitude_opposite : (x : ℤ) → nat_abs (neg_ℤ x) ≡ nat_abs x
-magnitude_opposite (pos zero) = refl
-magnitude_opposite (pos (suc n)) = refl
-magnitude_opposite (negsuc n) = refl
+magnitude_opposite x = grind arith
 
 magnitude_product : (x y : ℤ) → nat_abs (x *ℤ y) ≡ nat_abs x * nat_abs y
-magnitude_product (pos a) (pos b) = refl
-magnitude_product (pos a) (negsuc b) = magnitude_opposite (pos (a * suc b))
-magnitude_product (negsuc a) (pos b) = magnitude_opposite (pos (suc a * b))
-magnitude_product (negsuc a) (negsuc b) = refl
-
-magnitude_sign : (x : ℤ) → nat_abs (int_signum x) ≤ 1
-magnitude_sign (pos n) = omega arith
-magnitude_sign (negsuc n) = omega arith
+magnitude_product x y = grind arith
 
 -- a number that is within a bound, where it is known; and at most so many of them
 abbrev Within : ℕ → Option ℤ → Type 0
@@ -54,50 +36,34 @@ AllWithin bound most None = Unit {0}
 AllWithin bound most (Some xs) = AllByRecursion (λ x. nat_abs x ≤ bound) xs × (length xs ≤ most)
 
 within_either : (bound : ℕ) (t : Bool) (x y : ℤ) → nat_abs x ≤ bound → nat_abs y ≤ bound → nat_abs (cond t x y) ≤ bound
-within_either bound true x y h k = h
-within_either bound false x y h k = k
+within_either bound t x y h k = grind arith
 
 least_within : (bound : ℕ) (x : ℤ) (xs : List ℤ) → nat_abs x ≤ bound → AllByRecursion (λ x. nat_abs x ≤ bound) xs → nat_abs (least_of x xs) ≤ bound
 least_within bound x [] h each = h
-least_within bound x (y ∷ ys) h each = within_either bound (lt_z (least_of y ys) x) _ _ (least_within bound y ys each.0 each.1) h
+least_within bound x (y ∷ ys) h each = grind (arith, within_either, least_within bound y ys each.0 each.1)
 
 greatest_within : (bound : ℕ) (x : ℤ) (xs : List ℤ) → nat_abs x ≤ bound → AllByRecursion (λ x. nat_abs x ≤ bound) xs → nat_abs (greatest_of x xs) ≤ bound
 greatest_within bound x [] h each = h
-greatest_within bound x (y ∷ ys) h each = within_either bound (lt_z (greatest_of y ys) x) _ _ h (greatest_within bound y ys each.0 each.1)
+greatest_within bound x (y ∷ ys) h each = grind (arith, within_either, greatest_within bound y ys each.0 each.1)
 
 total_within : (bound : ℕ) (xs : List ℤ) → AllByRecursion (λ x. nat_abs x ≤ bound) xs → nat_abs (total xs) ≤ length xs * bound
 total_within bound [] each = omega arith
-total_within bound (x ∷ xs) each = omega (arith, magnitude_sum x (total xs), each.0, total_within bound xs each.1, suc-mul (length xs) bound)
+total_within bound (x ∷ xs) each = grind (arith, magnitude_sum, suc-mul, total_within bound xs each.1)
 
 unary_within : (u : Unary) (bound : ℕ) (x : Option ℤ) → Within bound x → Within (unary_bound u bound) (option_map (of_one u) x)
-unary_within u bound None h = tt
-unary_within Abs bound (Some x) h = h
-unary_within Sign bound (Some x) h = magnitude_sign x
+unary_within u bound x h = grind arith
 
 binary_within : (b : Binary) (m n : ℕ) (x y : Option ℤ) → Within m x → Within n y → Within (binary_bound b m n) (both (of_two b) x y)
-binary_within b m n None y h k = tt
-binary_within b m n (Some x) None h k = tt
-binary_within Add m n (Some x) (Some y) h k = omega (arith, magnitude_sum x y)
-binary_within Subtract m n (Some x) (Some y) h k = omega (arith, magnitude_sum x (neg_ℤ y), magnitude_opposite y)
-binary_within Multiply m n (Some x) (Some y) h k = rw (magnitude_product x y) (mul-le-mul h k)
+binary_within b m n x y h k = grind (arith, magnitude_sum, magnitude_opposite, magnitude_product, mul-le-mul)
 
 statistic_within : (s : Statistic) (bound : ℕ) (xs : Option (List ℤ)) → AllWithin bound most_states xs → Within (statistic_bound s bound) (option_map (of_many s) xs)
-statistic_within s bound None h = tt
-statistic_within Min bound (Some []) h = omega arith
-statistic_within Min bound (Some (x ∷ xs)) h = least_within bound x xs h.0.0 h.0.1
-statistic_within Max bound (Some []) h = omega arith
-statistic_within Max bound (Some (x ∷ xs)) h = greatest_within bound x xs h.0.0 h.0.1
-statistic_within Sum bound (Some xs) h = omega (arith, total_within bound xs h.0, mul-le-mul_right bound h.1)
-statistic_within Count bound (Some xs) h = h.1
+statistic_within s bound xs h = grind (arith, least_within, greatest_within, total_within, mul-le-mul_right)
 
 more_within : (bound n : ℕ) (xs : Option (List ℤ)) → AllWithin bound n xs → AllWithin bound (suc n) xs
-more_within bound n None h = tt
-more_within bound n (Some xs) h = (h.0, omega (arith, h.1))
+more_within bound n xs h = grind arith
 
 collect_within : (bound n : ℕ) (x : Option ℤ) (xs : Option (List ℤ)) → Within bound x → AllWithin bound n xs → AllWithin bound (suc n) (both ◌∷◌ x xs)
-collect_within bound n None xs h k = tt
-collect_within bound n (Some x) None h k = tt
-collect_within bound n (Some x) (Some xs) h k = ((h, k.0), omega (arith, k.1))
+collect_within bound n x xs h k = grind arith
 
 none_within : (bound n : ℕ) → AllWithin bound n (Some [])
 none_within bound n = (tt, omega arith)
@@ -129,25 +95,23 @@ module _ (largest : ℕ) (mark : Mark) where
   variable_within v (s ∷ r) small = all_nth v s.values small.0
 
   few_within : (bound n : ℕ) (xs : Option (List ℤ)) → n ≤ most_states → AllWithin bound n xs → AllWithin bound most_states xs
-  few_within bound n None few h = tt
-  few_within bound n (Some xs) few h = (h.0, omega (arith, h.1))
+  few_within bound n xs few h = grind arith
 
   value_within : (m : Measure) (run : List State) → length run ≤ most_states → AllByRecursion Small run → Within (bound_of largest m) (value m mark run)
   value_within (numeral n) run few small = omega arith
   value_within (variable v) run few small = variable_within v run small
-  value_within (unary u m) run few small = unary_within u (bound_of largest m) _ (value_within m run few small)
-  value_within (binary b m n) run few small = binary_within b (bound_of largest m) (bound_of largest n) _ _ (value_within m run few small) (value_within n run few small)
+  value_within (unary u m) run few small = grind (arith, unary_within, value_within m run few small)
+  value_within (binary b m n) run few small = grind (arith, binary_within, value_within m run few small, value_within n run few small)
   value_within (over s w m) run few small =
       statistic_within s (bound_of largest m) _
       (few_within (bound_of largest m) (length run) _ few (tour_within (bound_of largest m) (value m mark) (λ t few' small'. value_within m t few' small') w.first w.last run few small))
 
 bound_lawful : (width largest : ℕ) (inside : Bool) (m : Measure) → lawful_measure width largest inside m ≡ true → largest ≤ most_numeral → bound_of largest m ≤ most_bound
-bound_lawful width largest inside (numeral n) h few = omega (arith, leb-true (nat_abs n) most_numeral h)
+bound_lawful width largest inside (numeral n) h few = grind (arith, leb-true)
 bound_lawful width largest inside (variable v) h few = omega arith
-bound_lawful width largest inside (unary u m) h few = leb-true _ most_bound (unary_parts width largest inside u m h).1
-bound_lawful width largest inside (binary b m n) h few = leb-true _ most_bound (and_parts _ _ (binary_parts width largest inside b m n h).2).1
-bound_lawful width largest inside (over s w m) h few = leb-true _ most_bound (over_parts width largest inside s w m h).3
+bound_lawful width largest inside (unary u m) h few = grind (arith, leb-true, unary_parts)
+bound_lawful width largest inside (binary b m n) h few = grind (arith, leb-true, and_parts, binary_parts)
+bound_lawful width largest inside (over s w m) h few = grind (arith, leb-true, over_parts)
 
 pub numbers_bounded : NumbersBounded
-numbers_bounded width largest inside m h few' mark run few small z known =
-    (subst (Within (bound_of largest m)) known (value_within largest mark m run few small), bound_lawful width largest inside m h few')
+numbers_bounded width largest inside m h few' mark run few small z known = grind (arith, value_within, bound_lawful)

@@ -1,11 +1,12 @@
 -- What the definitions say of run A, whose longest stay is 2: stays 2, 2, 1 and `level` 9, 7, 4; and of cases that tell a slip from the rule. All by computation. Assumes nothing.
-use Rattle.std.proofs.Common.{◌≡◌, ℕ, true, false, List, [], ◌∷◌, ℤ, pos, negsuc, Some, None, refl}
+use Rattle.std.proofs.Common.{◌≡◌, ℕ, List, [], ◌∷◌, ℤ, pos, negsuc, Some, None, refl}
 use Rattle.parts.specs.Formulas.{Measure, numeral, variable, unary, binary, over, Property, compare, prefixed, joined}
 use Rattle.parts.specs.declared.kinds.Binary.TheVariants.{Add, Subtract, Multiply}
 use Rattle.parts.specs.declared.kinds.Comparator.{Comparator}
 use Rattle.parts.specs.declared.kinds.Comparator.TheVariants.{Less, AtMost, Equal, AtLeast, Greater}
 use Rattle.parts.specs.declared.kinds.Connective.TheVariants.{Or, Until}
 use Rattle.parts.specs.declared.kinds.Prefix.TheVariants.{Not, Next, Eventually, Always}
+use Rattle.parts.specs.declared.kinds.Quantity.TheVariants.{Value, Change}
 use Rattle.parts.specs.declared.kinds.Statistic.TheVariants.{Min, Max, Sum, Count}
 use Rattle.parts.specs.declared.kinds.Unary.TheVariants.{Abs, Sign}
 use Rattle.parts.specs.declared.kinds.Window.{Window}
@@ -25,7 +26,7 @@ abbrev from : ℕ → ℕ → Window
 from a b = record { first = a; last = b }
 
 abbrev level : Comparator → ℕ → Property
-level c n = compare c false (variable 0) (numeral (pos n))
+level c n = compare c Value (variable 0) (numeral (pos n))
 
 abbrev sum : ℕ → ℕ → Measure
 sum a b = over Sum (from a b) (variable 0)
@@ -43,7 +44,7 @@ always_open = refl
 always_closed : verdict (prefixed (Always (from 0 6)) (level Greater 3)) Closed run_a ≡ True
 always_closed = refl
 
-falls : verdict (compare Equal true (variable 0) (numeral (negsuc 0))) Open run_a ≡ True
+falls : verdict (compare Equal Change (variable 0) (numeral (negsuc 0))) Open run_a ≡ True
 falls = refl
 
 next_open : verdict (prefixed (Next 3) (level Less 5)) Open run_a ≡ Undecided
@@ -58,7 +59,7 @@ next_reach = refl
 until_in_time : verdict (joined (Until (from 0 5)) (level Greater 6) (level Less 5)) Open run_a ≡ True
 until_in_time = refl
 
-sum_of_all : verdict (compare Equal false (sum 0 5) (numeral (pos 20))) Open run_a ≡ True
+sum_of_all : verdict (compare Equal Value (sum 0 5) (numeral (pos 20))) Open run_a ≡ True
 sum_of_all = refl
 
 -- an inner window is counted from the start of the visited state, and not from the outer moment
@@ -80,13 +81,13 @@ cut_until_lost : verdict (joined (Until (from 0 6)) (level Greater 4) (level Les
 cut_until_lost = refl
 
 -- an unknown number is not false, whichever way it is compared, nor lost in a product with 0
-unknown_at_most : verdict (compare AtMost false (sum 0 6) (numeral (pos 100))) Open run_a ≡ Undecided
+unknown_at_most : verdict (compare AtMost Value (sum 0 6) (numeral (pos 100))) Open run_a ≡ Undecided
 unknown_at_most = refl
 
-unknown_greater : verdict (compare Greater false (sum 0 6) (numeral (pos 100))) Open run_a ≡ Undecided
+unknown_greater : verdict (compare Greater Value (sum 0 6) (numeral (pos 100))) Open run_a ≡ Undecided
 unknown_greater = refl
 
-unknown_at_the_right : verdict (compare Less false (numeral (pos 0)) (sum 0 6)) Open run_a ≡ Undecided
+unknown_at_the_right : verdict (compare Less Value (numeral (pos 0)) (sum 0 6)) Open run_a ≡ Undecided
 unknown_at_the_right = refl
 
 unknown_times_none : value (binary Multiply (numeral (pos 0)) (sum 0 6)) Open run_a ≡ None
@@ -128,13 +129,13 @@ enduring_sum : value (sum 0 100) Closed run_a ≡ Some (pos 20)
 enduring_sum = refl
 
 -- the next state's value less the value here, against the number for each tick of the stay here
-change_per_tick : verdict (compare Less true (variable 0) (numeral (pos 0))) Open run_a ≡ True
+change_per_tick : verdict (compare Less Change (variable 0) (numeral (pos 0))) Open run_a ≡ True
 change_per_tick = refl
 
-last_change_open : verdict (compare Less true (variable 0) (numeral (pos 0))) Open (state 1 (pos 4) ∷ []) ≡ Undecided
+last_change_open : verdict (compare Less Change (variable 0) (numeral (pos 0))) Open (state 1 (pos 4) ∷ []) ≡ Undecided
 last_change_open = refl
 
-last_change_closed : verdict (prefixed Not (compare Less true (variable 0) (numeral (pos 0)))) Closed (state 1 (pos 4) ∷ []) ≡ True
+last_change_closed : verdict (prefixed Not (compare Less Change (variable 0) (numeral (pos 0)))) Closed (state 1 (pos 4) ∷ []) ≡ True
 last_change_closed = refl
 
 -- what a window adds to the reach, and what a change does
@@ -144,10 +145,10 @@ eventually_reach = refl
 always_reach : reach_of 2 (prefixed (Always (from 0 6)) (level Greater 3)) ≡ 7
 always_reach = refl
 
-change_reach : reach_of 2 (compare Equal true (variable 0) (numeral (negsuc 0))) ≡ 3
+change_reach : reach_of 2 (compare Equal Change (variable 0) (numeral (negsuc 0))) ≡ 3
 change_reach = refl
 
-until_reach : reach_of 2 (joined (Until (from 0 5)) (compare Less true (variable 0) (sum 0 3)) (level Less 5)) ≡ 11
+until_reach : reach_of 2 (joined (Until (from 0 5)) (compare Less Change (variable 0) (sum 0 3)) (level Less 5)) ≡ 11
 until_reach = refl
 
 -- comparing and computing, which the two meanings share
@@ -204,10 +205,10 @@ backwards_closed : verdict (prefixed (Eventually (from 4 2)) (level Less 5)) Clo
 backwards_closed = refl
 
 -- with a window in a window, the reach is met and the verdict undecided
-nested_window_reach : reach_of 2 (compare Less false (over Sum (from 0 1) (sum 0 5)) (numeral (pos 5))) ≡ 2
+nested_window_reach : reach_of 2 (compare Less Value (over Sum (from 0 1) (sum 0 5)) (numeral (pos 5))) ≡ 2
 nested_window_reach = refl
 
-nested_window : verdict (compare Less false (over Sum (from 0 1) (sum 0 5)) (numeral (pos 5))) Open (state 2 (pos 4) ∷ []) ≡ Undecided
+nested_window : verdict (compare Less Value (over Sum (from 0 1) (sum 0 5)) (numeral (pos 5))) Open (state 2 (pos 4) ∷ []) ≡ Undecided
 nested_window = refl
 
 -- so it is with a stay of 4, where the longest is 1

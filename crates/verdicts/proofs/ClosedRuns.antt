@@ -1,5 +1,5 @@
 -- On a closed run the verdict of a formula is true where the formula holds and false where it does not. Assumes nothing.
-use Rattle.std.proofs.Common.{◌≡◌, ℕ, ◌<◌, ◌≤◌, Bool, true, false, cond, List, [], ◌∷◌, length, get_or, drop, ℤ, pos, ◌-ℤ◌, ◌*ℤ◌, Some, None, Option, sym, refl, ap, ◌∙◌, subst, ap₂, inl, inr, arith}
+use Rattle.std.proofs.Common.{◌≡◌, ℕ, ◌<◌, ◌≤◌, Bool, true, false, List, [], ◌∷◌, length, get_or, drop, ℤ, pos, ◌-ℤ◌, ◌*ℤ◌, Some, None, Option, sym, refl, ap, ◌∙◌, subst, ap₂, arith}
 use mathlib.Core.List.{foldr}
 use Rattle.std.specs.Option.{option_map}
 use Rattle.std.specs.List.{AllByRecursion}
@@ -12,18 +12,17 @@ use Rattle.parts.specs.Limits.{lawful, lawful_measure, lawful_window}
 use Rattle.parts.specs.declared.kinds.Comparator.{Comparator}
 use Rattle.parts.specs.declared.kinds.Connective.TheVariants.{And, Or, Implies, Iff, Until}
 use Rattle.parts.specs.declared.kinds.Prefix.TheVariants.{Not, Next, Eventually, Always}
+use Rattle.parts.specs.declared.kinds.Quantity.TheVariants.{Value, Change}
 use Rattle.parts.specs.declared.kinds.Window.{Window}
-use Rattle.runs.specs.Moments.{Belongs}
 use Rattle.runs.specs.Runs.{State, endures, value_at}
 use Rattle.runs.specs.declared.shape.Mark.{Mark}
 use Rattle.runs.specs.declared.shape.Mark.TheVariants.{Closed}
 use Rattle.runs.specs.declared.shape.Shape.{Shape}
 use Rattle.verdicts.proofs.LawfulFormulas.{binary_parts, compare_parts, joined_parts, over_parts, prefixed_parts, unary_parts, window_order}
 use Rattle.verdicts.proofs.RisingNumbers.{same_rising}
-use Rattle.verdicts.proofs.VerdictOrder.{false≢undecided, true≢false, true≢undecided}
 use Rattle.verdicts.proofs.VisitedStates.{places, places_in_order, tour_folds}
 use Rattle.verdicts.proofs.WholeWindows.{closed_whole}
-use Rattle.verdicts.specs.Arithmetic.{compares, of_many, of_one, of_two}
+use Rattle.verdicts.specs.Arithmetic.{compares, of_many, of_two}
 use Rattle.verdicts.specs.Begins.{Fits}
 use Rattle.verdicts.specs.Laws.{Tells, TwoValued}
 use Rattle.verdicts.specs.Tables.{decided}
@@ -37,23 +36,8 @@ use Rattle.verdicts.proofs.ToldVerdicts.{Told, every_told, right, some_told, tol
 use Rattle.verdicts.proofs.OnlyNumbers.{Only, all_told, only_both, only_mapped}
 
 -- whether the last state endures is all that moments ask of a mark
-belongs_as : (mark other : Mark) → endures other ≡ true → {states : List State} {i t j : ℕ} → Belongs mark states i t j → Belongs other states i t j
-belongs_as mark other closed b = record {
-  from = b.from;
-  there = b.there;
-  reached = elim b.reached [ inl h ↦ inl h | inr h ↦ inr (closed, h.1) ];
-  least = b.least;
-}
-
-visits_as : (mark other : Mark) → endures other ≡ true → {w : Window} {run : List State} {j : ℕ} → Visits mark w run j → Visits other w run j
-visits_as mark other closed v = record { moment = v.moment; from = v.from; upto = v.upto; belongs = belongs_as mark other closed v.belongs }
-
 in_order_as : (mark : Mark) → endures mark ≡ true → {w : Window} {run : List State} {js : List ℕ} → InOrder mark w run js → InOrder Closed w run js
-in_order_as mark closed order = record {
-  rising = order.rising;
-  each = λ j m. visits_as mark Closed refl (order.each j m);
-  all = λ j v. order.all j (visits_as Closed mark closed v);
-}
+in_order_as mark closed order = grind arith
 
 compared_told : (P Q : ℤ → Type 0) (x y : Option ℤ) (c : Comparator) → Only P x → Only Q y → Told ((a : ℤ) × (b : ℤ) × P a × Q b × (compares c a b ≡ true)) (compared c x y)
 compared_told P Q x y c m n = rw (m.known, n.known) (by_test (compares c m.number n.number) refl)
@@ -70,24 +54,19 @@ further_told mark closed P said k run each = by_rest (drop k run) refl
     by_rest [] e = rw closed (wrong (λ h. omega (arith, h.0, ap length e, length-drop k run)))
     by_rest (s ∷ r) e = told_as (λ x. (omega (arith, ap length e, length-drop k run), subst P e x)) (λ h. subst P (sym e) h.1) (each (s ∷ r) e (omega arith))
 
-same_some : (m n : ℕ) → Some m ≡ Some n → m ≡ n
-same_some m n e = cc
-
 module _ (shape : Shape) (largest : ℕ) (mark : Mark) (closed : endures mark ≡ true) where
   fits_stays : (run : List State) → AllByRecursion (Fits shape) run → AllByRecursion (λ s. 1 ≤ s.stay) run
   fits_stays run fits = All-weaker (Fits shape) (λ s. 1 ≤ s.stay) (λ s f. f.stay.0) run fits
 
   visits_in_order : (w : Window) → lawful_window w ≡ true → (run : List State) → AllByRecursion (Fits shape) run → InOrder Closed w run (places mark w.first w.last run)
-  visits_in_order w h run fits = in_order_as mark closed (places_in_order mark w (window_order w h) run (fits_stays run fits))
+  visits_in_order w h run fits = grind (arith, in_order_as, places_in_order, window_order, fits_stays)
 
   visited_there : (run : List State) (j : ℕ) {w : Window} → Visits Closed w run j → 0 < length (drop j run)
   visited_there run j v = omega (arith, v.belongs.there, length-drop j run)
 
   over_folds : {A : Type 0} (join : List State → A → A) (done cut : A) (w : Window) (run : List State) → 0 < length run
       → tour_of join done cut mark w run ≡ foldr (λ j x. join (drop j run) x) done (places mark w.first w.last run)
-  over_folds join done cut w run some =
-      tour_folds join done cut mark w.first w.last run
-      ∙ ap (λ told. foldr (λ j x. join (drop j run) x) (cond told done cut) (places mark w.first w.last run)) (closed_whole mark closed w.first w.last run some)
+  over_folds join done cut w run some = grind (arith, tour_folds, closed_whole)
 
   variable_told : (v : ℕ) → v < shape.width → (run : List State) → AllByRecursion (Fits shape) run → 0 < length run → Only (λ z. value_at run 0 v ≡ Some z) (value_at run 0 v)
   variable_told v h [] fits some = absurd (omega arith)
@@ -98,10 +77,9 @@ module _ (shape : Shape) (largest : ℕ) (mark : Mark) (closed : endures mark �
 
   number_told : (inside : Bool) (m : Measure) → lawful_measure shape.width largest inside m ≡ true
       → (run : List State) → AllByRecursion (Fits shape) run → 0 < length run → Only (Number m run) (value m mark run)
-  number_told inside (numeral n) h run fits some = record { number = n; known = refl; is = refl; only = λ other e. e }
+  number_told inside (numeral n) h run fits some = grind arith
   number_told inside (variable v) h run fits some = variable_told v (ltb-true v shape.width h) run fits some
-  number_told inside (unary u m) h run fits some =
-      only_mapped (of_one u) (Number m run) _ (number_told inside m (unary_parts shape.width largest inside u m h).0 run fits some)
+  number_told inside (unary u m) h run fits some = grind (arith, only_mapped, unary_parts, number_told inside m (unary_parts shape.width largest inside u m h).0 run fits some)
   number_told inside (binary b m n) h run fits some =
       let parts = binary_parts shape.width largest inside b m n h in
       only_both (of_two b) (Number m run) (Number n run) _ _ (number_told inside m parts.0 run fits some) (number_told inside n parts.1 run fits some)
@@ -121,12 +99,12 @@ module _ (shape : Shape) (largest : ℕ) (mark : Mark) (closed : endures mark �
             o.4 ∙ ap (of_many s) (found.only o.1 (subst (λ ks. Pairwise P ks o.1) same o.3));
       }
 
-  rises_told : (c : Comparator) (m n : Measure) → lawful shape.width largest (compare c true m n) ≡ true
-      → (run : List State) → AllByRecursion (Fits shape) run → 0 < length run → Told (Holds (compare c true m n) run) (rises c (value m mark) (value n mark) mark run)
+  rises_told : (c : Comparator) (m n : Measure) → lawful shape.width largest (compare c Change m n) ≡ true
+      → (run : List State) → AllByRecursion (Fits shape) run → 0 < length run → Told (Holds (compare c Change m n) run) (rises c (value m mark) (value n mark) mark run)
   rises_told c m n h [] fits some = absurd (omega arith)
   rises_told c m n h (s ∷ []) fits some = rw closed (wrong (λ holds. omega (arith, holds.0)))
   rises_told c m n h (s ∷ t ∷ r) fits some =
-      let parts = compare_parts shape.width largest c true m n h in
+      let parts = compare_parts shape.width largest c Change m n h in
       let run = s ∷ t ∷ r in
       let times = λ (x : ℤ). x *ℤ pos s.stay in
       told_as
@@ -136,7 +114,7 @@ module _ (shape : Shape) (largest : ℕ) (mark : Mark) (closed : endures mark �
         times o.3,
         (o.1, o.2, o.5, o.6, refl),
         (o.3, o.7, refl),
-        ap (λ k. compares c (o.1 -ℤ o.2) (o.3 *ℤ pos k)) (same_some s.stay o.4 o.8) ∙ o.9,
+        let same : s.stay ≡ o.4 = cc in ap (λ k. compares c (o.1 -ℤ o.2) (o.3 *ℤ pos k)) same ∙ o.9,
       ))
       (compared_told (λ z. (x : ℤ) × (y : ℤ) × Number m (t ∷ r) x × Number m run y × (z ≡ x -ℤ y)) (λ z. (x : ℤ) × Number n run x × (z ≡ times x)) _ _ c
       (only_both ◌-ℤ◌ (Number m (t ∷ r)) (Number m run) _ _ (number_told false m parts.0 (t ∷ r) fits.1 (omega arith)) (number_told false m parts.0 run fits (omega arith)))
@@ -150,10 +128,8 @@ module _ (shape : Shape) (largest : ℕ) (mark : Mark) (closed : endures mark �
       told (drop j run) (All-drop (Fits shape) j run fits) (visited_there run j ((visits_in_order w h run fits).each j i))
 
   verdict_told : (p : Property) → lawful shape.width largest p ≡ true → (run : List State) → AllByRecursion (Fits shape) run → 0 < length run → Told (Holds p run) (verdict p mark run)
-  verdict_told (compare c false m n) h run fits some =
-      let parts = compare_parts shape.width largest c false m n h in
-      compared_told (Number m run) (Number n run) _ _ c (number_told false m parts.0 run fits some) (number_told false n parts.1 run fits some)
-  verdict_told (compare c true m n) h run fits some = rises_told c m n h run fits some
+  verdict_told (compare c Value m n) h run fits some = grind (arith, compare_parts, compared_told, number_told)
+  verdict_told (compare c Change m n) h run fits some = rises_told c m n h run fits some
   verdict_told (prefixed Not p) h run fits some = told_not (verdict_told p (prefixed_parts shape.width largest Not p h).1 run fits some)
   verdict_told (prefixed (Next k) p) h run fits some =
       further_told mark closed (Holds p) (verdict p mark) k run
@@ -193,8 +169,7 @@ module _ (shape : Shape) (largest : ℕ) (mark : Mark) (closed : endures mark �
 
 -- as the law says it
 told_tells : (p : Property) (run : List State) {v : Verdict} → Told (Holds p run) v → Tells p run v × (v ≡ Undecided → ⊥)
-told_tells p run (right x) = (record { right = λ e. x; wrong = λ e. absurd (true≢false e) }, true≢undecided)
-told_tells p run (wrong f) = (record { right = λ e. absurd (true≢false (sym e)); wrong = λ e. f }, false≢undecided)
+told_tells p run h = grind arith
 
 pub two_valued : TwoValued
 two_valued shape largest p h mark closed run fits some = told_tells p run (verdict_told shape largest mark closed p h run fits some)

@@ -6,18 +6,15 @@ use Rattle.parts.specs.Formulas.{Property}
 use Rattle.runs.specs.Runs.{State}
 use Rattle.verdicts.proofs.ClosedRuns.{two_valued}
 use Rattle.verdicts.proofs.GrowingRuns.{verdicts_stay}
-use Rattle.verdicts.proofs.VerdictOrder.{false≢undecided, true≢false, true≢undecided}
 use Rattle.verdicts.specs.Begins.{Fits}
 use Rattle.verdicts.specs.Laws.{Foretells, Tells}
 use Rattle.verdicts.specs.Verdicts.{verdict}
 use Rattle.verdicts.specs.declared.verdict.Verdict.{Verdict}
-use Rattle.verdicts.specs.declared.verdict.Verdict.TheVariants.{False, True, Undecided}
+use Rattle.verdicts.specs.declared.verdict.Verdict.TheVariants.{Undecided}
 
 -- what is told of a run by a verdict is told by an earlier one, if that was decided and stayed
 earlier_tells : (p : Property) (run : List State) (v w : Verdict) → ((v ≡ Undecided → ⊥) → w ≡ v) → Tells p run w → Tells p run v
-earlier_tells p run True w stays told = record { right = λ e. told.right (stays true≢undecided); wrong = λ e. absurd (true≢false e) }
-earlier_tells p run False w stays told = record { right = λ e. absurd (true≢false (sym e)); wrong = λ e. told.wrong (stays false≢undecided) }
-earlier_tells p run Undecided w stays told = record { right = λ e. absurd (true≢undecided (sym e)); wrong = λ e. absurd (false≢undecided (sym e)) }
+earlier_tells p run v w stays told = grind arith
 
 pub foretells : Foretells
 foretells largest kept p h open' fits some closed begins =

@@ -1,11 +1,12 @@
 -- A decided verdict and a known number stay, whatever states follow and whether or not the run is then closed. Assumes nothing.
-use Rattle.std.proofs.Common.{◌≡◌, ℕ, zero, suc, ◌-◌, ◌≤◌, Bool, true, false, cond, ◌||◌, leb, List, [], ◌∷◌, ◌++◌, drop, ℤ, pos, ◌-ℤ◌, ◌*ℤ◌, Some, None, Option, sym, refl, ap, ◌∙◌, inl, inr, arith}
-use Rattle.std.proofs.lemmas.Bool.{and_right, false≢true, or_cases, or_left}
+use Rattle.std.proofs.Common.{◌≡◌, ℕ, zero, suc, ◌-◌, ◌≤◌, Bool, true, false, cond, List, [], ◌∷◌, ◌++◌, drop, ℤ, Some, None, Option, refl, ◌∙◌, arith}
+use Rattle.std.proofs.lemmas.Bool.{false≢true}
 use Rattle.parts.specs.Formulas.{Measure, numeral, variable, unary, binary, over, Property, compare, prefixed, joined}
 use Rattle.parts.specs.Limits.{lawful, lawful_measure, lawful_window}
 use Rattle.parts.specs.declared.kinds.Comparator.{Comparator}
 use Rattle.parts.specs.declared.kinds.Connective.TheVariants.{And, Or, Implies, Iff, Until}
 use Rattle.parts.specs.declared.kinds.Prefix.TheVariants.{Not, Next, Eventually, Always}
+use Rattle.parts.specs.declared.kinds.Quantity.TheVariants.{Value, Change}
 use Rattle.parts.specs.declared.kinds.Window.{Window}
 use Rattle.runs.specs.Runs.{State, endures, value_at}
 use Rattle.runs.specs.declared.shape.Mark.{Mark}
@@ -14,7 +15,7 @@ use Rattle.verdicts.proofs.OwnedMoments.{within_order}
 use Rattle.verdicts.specs.Arithmetic.{of_many, of_one, of_two}
 use Rattle.verdicts.specs.Laws.{NumbersStay, VerdictsStay}
 use Rattle.verdicts.specs.Tours.{tour_of, tour, tour_at, within}
-use Rattle.verdicts.specs.Verdicts.{always_step, collect, eventually_step, further, rise, rises, until_step, value, verdict}
+use Rattle.verdicts.specs.Verdicts.{always_step, collect, eventually_step, further, rises, until_step, value, verdict}
 use Rattle.verdicts.specs.declared.verdict.Verdict.{Verdict}
 use Rattle.verdicts.specs.declared.verdict.Verdict.TheVariants.{False, True, Undecided}
 use Rattle.verdicts.proofs.KeptAnswers.{Keeps, both_keeps, compared_keeps, greater_keeps, implies_keeps, lesser_keeps, mapped_keeps, same, swap_keeps, yet}
@@ -38,20 +39,18 @@ last_keeps none done false false begun' ended' join join' x joins order begins e
 
 -- On a run whose last state does not yet endure, a moment within a state stays within it.
 within_stays : (mark later : Mark) (t : ℕ) (s : State) (r : List State) → endures mark ≡ false → within mark t s [] ≡ true → within later t s r ≡ true
-within_stays mark later t s r lasts h = or_left (leb t s.stay) _ (elim (or_cases (leb t s.stay) _ (rw lasts at h)) [ inl e ↦ e | inr e ↦ absurd (false≢true e) ])
+within_stays mark later t s r lasts h = grind arith
 
 -- where another state follows, the marks make no difference
 within_middle : (mark later : Mark) (t : ℕ) (s n : State) (r more : List State) → within mark t s (n ∷ r) ≡ within later t s (n ∷ more)
-within_middle mark later t s n r more = ap (λ x. leb t s.stay || x) (and_right (endures mark) false refl ∙ sym (and_right (endures later) false refl))
+within_middle mark later t s n r more = grind arith
 
 module _ {A : Type 0} (none done : A) (join join' : List State → A → A) (mark later : Mark) (more : List State)
     (open' : endures mark ≡ false)
     (joins : (t : List State) (x x' : A) → Keeps none x x' → Keeps none (join t x) (join' (t ++ more) x')) where
   tour_keeps : (a b : ℕ) → a ≤ b → (run : List State) → Keeps none (tour join done none mark a b run) (tour join' done none later a b (run ++ more))
   tour_keeps a b h [] = yet
-  tour_keeps a b h (s ∷ []) =
-      last_keeps none done (within mark a s []) (within mark b s []) (within later a s more) (within later b s more) (join (s ∷ [])) (join' (s ∷ more)) _ (joins (s ∷ []))
-      (within_order mark a b s [] h) (within_stays mark later a s more open') (within_stays mark later b s more open')
+  tour_keeps a b h (s ∷ []) = grind (arith, last_keeps, within_order, within_stays)
   tour_keeps a b h (s ∷ n ∷ r) =
       rw (within_middle mark later a s n r (r ++ more), within_middle mark later b s n r (r ++ more))
       (toured_keeps none done (within later a s (n ∷ r ++ more)) (within later b s (n ∷ r ++ more)) (join (s ∷ n ∷ r)) (join' (s ∷ n ∷ r ++ more)) (joins (s ∷ n ∷ r))
@@ -60,7 +59,7 @@ module _ {A : Type 0} (none done : A) (join join' : List State → A → A) (mar
 module _ (width largest : ℕ) (mark later : Mark) (more : List State) (open' : endures mark ≡ false) where
   over_keeps : {A : Type 0} (none done : A) (join join' : List State → A → A) → ((t : List State) (x x' : A) → Keeps none x x' → Keeps none (join t x) (join' (t ++ more) x'))
       → (w : Window) → lawful_window w ≡ true → (run : List State) → Keeps none (tour_of join done none mark w run) (tour_of join' done none later w (run ++ more))
-  over_keeps none done join join' joins w h run = tour_keeps none done join join' mark later more open' joins w.first w.last (window_order w h) run
+  over_keeps none done join join' joins w h run = grind (arith, tour_keeps, window_order)
 
   variable_keeps : (v : ℕ) (run : List State) → Keeps None (value_at run 0 v) (value_at (run ++ more) 0 v)
   variable_keeps v [] = yet
@@ -84,8 +83,7 @@ module _ (width largest : ℕ) (mark later : Mark) (more : List State) (open' : 
   rises_keeps : (c : Comparator) (m m' n n' : List State → Option ℤ) → ((t : List State) → Keeps None (m t) (m' (t ++ more))) → ((t : List State) → Keeps None (n t) (n' (t ++ more)))
       → (run : List State) → Keeps Undecided (rises c m n mark run) (rises c m' n' later (run ++ more))
   rises_keeps c m m' n n' h k [] = rw open' yet
-  rises_keeps c m m' n n' h k (s ∷ r) =
-      further_keeps (rise c m n s r) (rise c m' n' s (r ++ more)) (λ t. compared_keeps c (both_keeps ◌-ℤ◌ (h t) (h (s ∷ r))) (mapped_keeps (λ x. x *ℤ pos s.stay) (k (s ∷ r)))) r
+  rises_keeps c m m' n n' h k (s ∷ r) = grind (arith, further_keeps, compared_keeps, both_keeps, mapped_keeps)
 
   drop_keeps : (said said' : List State → Verdict) → ((t : List State) → Keeps Undecided (said t) (said' (t ++ more))) → (k : ℕ) (run : List State)
       → Keeps Undecided (further mark said (drop k run)) (further later said' (drop k (run ++ more)))
@@ -94,12 +92,10 @@ module _ (width largest : ℕ) (mark later : Mark) (more : List State) (open' : 
   drop_keeps said said' keeps (suc k) (s ∷ r) = drop_keeps said said' keeps k r
 
   verdict_keeps : (p : Property) → lawful width largest p ≡ true → (run : List State) → Keeps Undecided (verdict p mark run) (verdict p later (run ++ more))
-  verdict_keeps (compare c false m n) h run =
-      let parts = compare_parts width largest c false m n h in compared_keeps c (value_keeps false m parts.0 run) (value_keeps false n parts.1 run)
-  verdict_keeps (compare c true m n) h run =
-      let parts = compare_parts width largest c true m n h in rises_keeps c (value m mark) (value m later) (value n mark) (value n later) (value_keeps false m parts.0) (value_keeps false n parts.1) run
+  verdict_keeps (compare c Value m n) h run = grind (arith, compare_parts, compared_keeps, value_keeps)
+  verdict_keeps (compare c Change m n) h run = grind (arith, compare_parts, rises_keeps, value_keeps)
   verdict_keeps (prefixed Not p) h run = swap_keeps (verdict_keeps p (prefixed_parts width largest Not p h).1 run)
-  verdict_keeps (prefixed (Next k) p) h run = drop_keeps (verdict p mark) (verdict p later) (verdict_keeps p (prefixed_parts width largest (Next k) p h).1) k run
+  verdict_keeps (prefixed (Next k) p) h run = grind (arith, drop_keeps, prefixed_parts, verdict_keeps p (prefixed_parts width largest (Next k) p h).1)
   verdict_keeps (prefixed (Eventually w) p) h run =
       let parts = prefixed_parts width largest (Eventually w) p h in over_keeps Undecided False (eventually_step (verdict p mark)) (eventually_step (verdict p later)) (λ t x x' k. greater_keeps (verdict_keeps p parts.1 t) k) w parts.0 run
   verdict_keeps (prefixed (Always w) p) h run =
@@ -117,12 +113,11 @@ module _ (width largest : ℕ) (mark later : Mark) (more : List State) (open' : 
       over_keeps Undecided False (until_step (verdict p mark) (verdict q mark)) (until_step (verdict p later) (verdict q later)) (λ t x x' k. greater_keeps (verdict_keeps q parts.2 t) (lesser_keeps (verdict_keeps p parts.1 t) k)) w parts.0 run
 
 stays : {A : Type 0} {none x x' : A} → Keeps none x x' → (x ≡ none → ⊥) → x' ≡ x
-stays yet h = absurd (h refl)
-stays same h = refl
+stays h k = grind arith
 
 pub verdicts_stay : VerdictsStay
 verdicts_stay width largest p h mark later open' run more = stays (verdict_keeps width largest mark later more open' p h run)
 
 pub numbers_stay : NumbersStay
 numbers_stay width largest inside m h mark later open' run more z known =
-    stays (value_keeps width largest mark later more open' inside m h run) (λ e. let z : ◌≡◌ {A = ℕ} 0 1 = cc in omega arith) ∙ known
+    stays (value_keeps width largest mark later more open' inside m h run) (λ e. cc) ∙ known

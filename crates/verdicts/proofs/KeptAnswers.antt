@@ -1,11 +1,11 @@
 -- Answers that stay once they are there: how connectives, comparisons and computations keep them. Assumes nothing.
-use Rattle.std.proofs.Common.{ℤ, Some, None, Option}
+use Rattle.std.proofs.Common.{ℤ, None, Option, arith}
 use Rattle.std.specs.Option.{option_map}
 use Rattle.parts.specs.declared.kinds.Comparator.{Comparator}
 use Rattle.verdicts.specs.Tables.{greater, implies, lesser, swap}
 use Rattle.verdicts.specs.Verdicts.{both, compared}
 use Rattle.verdicts.specs.declared.verdict.Verdict.{Verdict}
-use Rattle.verdicts.specs.declared.verdict.Verdict.TheVariants.{False, True, Undecided}
+use Rattle.verdicts.specs.declared.verdict.Verdict.TheVariants.{Undecided}
 
 -- the later of two answers: any, where the earlier one was none yet, and else the same
 pub data Keeps {A : Type 0} (none : A) : A → A → Type 0 where
@@ -13,66 +13,40 @@ pub data Keeps {A : Type 0} (none : A) : A → A → Type 0 where
   same : {answer : A} → Keeps none answer answer
 
 lesser_left : (v w : Verdict) → Keeps Undecided (lesser Undecided w) (lesser v w)
-lesser_left False False = same
-lesser_left Undecided False = same
-lesser_left True False = same
-lesser_left v True = yet
-lesser_left v Undecided = yet
+lesser_left v w = grind (arith, same, yet)
 
 lesser_right : (v w : Verdict) → Keeps Undecided (lesser v Undecided) (lesser v w)
-lesser_right False w = same
-lesser_right Undecided w = yet
-lesser_right True w = yet
+lesser_right v w = grind (arith, same, yet)
 
 pub lesser_keeps : {v v' w w' : Verdict} → Keeps Undecided v v' → Keeps Undecided w w' → Keeps Undecided (lesser v w) (lesser v' w')
-lesser_keeps yet yet = yet
-lesser_keeps (yet {later}) (same {answer}) = lesser_left later answer
-lesser_keeps (same {answer}) (yet {later}) = lesser_right answer later
-lesser_keeps same same = same
+lesser_keeps h k = grind arith
 
 greater_left : (v w : Verdict) → Keeps Undecided (greater Undecided w) (greater v w)
-greater_left v False = yet
-greater_left False True = same
-greater_left Undecided True = same
-greater_left True True = same
-greater_left v Undecided = yet
+greater_left v w = grind (arith, yet, same)
 
 greater_right : (v w : Verdict) → Keeps Undecided (greater v Undecided) (greater v w)
-greater_right False w = yet
-greater_right Undecided w = yet
-greater_right True w = same
+greater_right v w = grind (arith, yet, same)
 
 pub greater_keeps : {v v' w w' : Verdict} → Keeps Undecided v v' → Keeps Undecided w w' → Keeps Undecided (greater v w) (greater v' w')
-greater_keeps yet yet = yet
-greater_keeps (yet {later}) (same {answer}) = greater_left later answer
-greater_keeps (same {answer}) (yet {later}) = greater_right answer later
-greater_keeps same same = same
+greater_keeps h k = grind arith
 
 pub swap_keeps : {v v' : Verdict} → Keeps Undecided v v' → Keeps Undecided (swap v) (swap v')
-swap_keeps yet = yet
-swap_keeps same = same
+swap_keeps h = grind (arith, yet, same)
 
 pub implies_keeps : {v v' w w' : Verdict} → Keeps Undecided v v' → Keeps Undecided w w' → Keeps Undecided (implies v w) (implies v' w')
 implies_keeps h k = greater_keeps (swap_keeps h) k
 
 pub mapped_keeps : {A B : Type 0} (f : A → B) {x x' : Option A} → Keeps None x x' → Keeps None (option_map f x) (option_map f x')
-mapped_keeps f yet = yet
-mapped_keeps f same = same
+mapped_keeps f h = grind (arith, yet, same)
 
 both_none : {A B C : Type 0} (f : A → B → C) (x : Option A) (y : Option B) → Keeps None (both f x None) (both f x y)
-both_none f None y = yet
-both_none f (Some x) y = yet
+both_none f x y = grind (arith, yet)
 
 pub both_keeps : {A B C : Type 0} (f : A → B → C) {x x' : Option A} {y y' : Option B} → Keeps None x x' → Keeps None y y' → Keeps None (both f x y) (both f x' y')
-both_keeps f yet k = yet
-both_keeps f (same {answer}) (yet {later}) = both_none f answer later
-both_keeps f same same = same
+both_keeps f h k = grind (arith, yet, same, both_none)
 
 compared_none : (c : Comparator) (x y : Option ℤ) → Keeps Undecided (compared c x None) (compared c x y)
-compared_none c None y = yet
-compared_none c (Some x) y = yet
+compared_none c x y = grind (arith, yet)
 
 pub compared_keeps : (c : Comparator) {x x' y y' : Option ℤ} → Keeps None x x' → Keeps None y y' → Keeps Undecided (compared c x y) (compared c x' y')
-compared_keeps c yet k = yet
-compared_keeps c (same {answer}) (yet {later}) = compared_none c answer later
-compared_keeps c same same = same
+compared_keeps c h k = grind (arith, yet, same, compared_none)

@@ -1,17 +1,16 @@
 -- Whatever feeds and closes follow, a decided verdict stays and the kept states fit the run's shape. Assumes nothing.
-use Rattle.std.proofs.Common.{◌≡◌, ℕ, zero, suc, Bool, true, false, cond, not, eqb, leb, List, [], ◌∷◌, length, ℤ, pos, negsuc, nat_abs, Some, None, Option, refl, ap, ◌∙◌, inl, inr, arith}
-use Rattle.std.specs.Int.{IsInRange}
+use Rattle.std.proofs.Common.{◌≡◌, ℕ, zero, suc, false, [], ◌∷◌, None, Option, ap, ◌∙◌, inl, inr, arith}
 use Rattle.std.specs.List.{AllByRecursion}
-use Rattle.std.proofs.ByRecursion.{All-push, All-weaker}
-use Rattle.std.proofs.lemmas.Bool.{and_parts, cases_Bool, eqb-true, false≢true, leb-true, not-false}
+use Rattle.std.proofs.ByRecursion.{All-push}
+use Rattle.std.proofs.lemmas.Bool.{cases_Bool}
 use Rattle.runs.proofs.LastingRuns.{lasting}
-use Rattle.runs.specs.Calls.{Step, after_steps, closes, feeds, stepped}
-use Rattle.runs.specs.Feeding.{after, close_refusal, fed, feed_refusal, full, offered, or_else, stay_within, unlawful, with_state}
-use Rattle.runs.specs.Runs.{Lawful, Meaning, Run, State, ended, endures}
+use Rattle.runs.proofs.TakenStates.{taken_lawful}
+use Rattle.runs.specs.Calls.{Step, after_steps, stepped}
+use Rattle.runs.specs.Feeding.{after, fed, state_of, unlawful, with_state}
+use Rattle.runs.specs.Offers.{Offered}
+use Rattle.runs.specs.Runs.{Meaning, Run, State, ended, endures}
 use Rattle.runs.specs.declared.refusal.Refusal.{Refusal}
-use Rattle.runs.specs.declared.refusal.Refusal.TheVariants as refusal
 use Rattle.runs.specs.declared.shape.Mark.{Mark}
-use Rattle.runs.specs.declared.shape.Mark.TheVariants.{Open, Closed}
 use Rattle.runs.specs.declared.shape.Shape.{Shape}
 use Rattle.verdicts.proofs.GrowingRuns.{verdicts_stay}
 use Rattle.verdicts.specs.Begins.{Fits}
@@ -20,8 +19,7 @@ use Rattle.verdicts.specs.Verdicts.{verdict}
 
 -- a last state that endures ends its run
 not_enduring : (mark : Mark) → ended mark ≡ false → endures mark ≡ false
-not_enduring Open h = refl
-not_enduring Closed h = h
+not_enduring mark h = grind arith
 
 pub verdicts_last : VerdictsLast
 verdicts_last width largest p h most m steps decided =
@@ -32,30 +30,8 @@ verdicts_last width largest p h most m steps decided =
           ∙ verdicts_stay width largest p h m.run.mark (after_steps most steps m).run.mark (not_enduring m.run.mark e) m.run.states later.states.0 decided
     ]
 
-pub lawful_fits : (shape : Shape) (largest : ℕ) (states : List State) → AllByRecursion (Lawful shape largest) states → AllByRecursion (Fits shape) states
-lawful_fits shape largest states lawful = All-weaker (Lawful shape largest) (Fits shape) (λ s l. record { stay = l.stay; values = l.values }) states lawful
-
--- what a feed that is not refused says of its state
-not_refused : (test : Bool) (r : Refusal) (rest : Option Refusal) → cond test (Some r) rest ≡ None → (test ≡ false) × (rest ≡ None)
-not_refused true r rest e = let z : ◌≡◌ {A = ℕ} 0 1 = cc in absurd (omega arith)
-not_refused false r rest e = (refl, e)
-
-neither_refused : (first second : Option Refusal) → or_else first second ≡ None → first ≡ None
-neither_refused (Some r) second e = e
-neither_refused None second e = refl
-
-stay_fits : (longest : ℕ) (stay : ℤ) → stay_within longest stay ≡ true → IsInRange 1 longest (nat_abs stay)
-stay_fits longest (pos n) h = let parts = and_parts (leb 1 n) (leb n longest) h in (leb-true 1 n parts.0, leb-true n longest parts.1)
-stay_fits longest (negsuc n) h = absurd (false≢true h)
-
-offered_fits : (shape : Shape) (most : ℕ) (stay : ℤ) (values : List ℤ) → unlawful shape most stay values ≡ None → Fits shape (offered stay values)
-offered_fits shape most stay values e =
-    let width = not_refused (not (eqb (length values) shape.width)) refusal.Width _ e in
-    let rest = not_refused (not (stay_within shape.longest stay)) refusal.Stay _ width.1 in
-    record {
-      stay = stay_fits shape.longest stay (not-false (stay_within shape.longest stay) rest.0);
-      values = eqb-true (length values) shape.width (not-false (eqb (length values) shape.width) width.0);
-    }
+offered_fits : (shape : Shape) (most : ℕ) (o : Offered) → unlawful shape most o ≡ None → Fits shape (state_of o)
+offered_fits shape most o e = grind arith
 
 module _ (most : ℕ) where
   abbrev AllFit : Meaning → Type 0
@@ -65,19 +41,14 @@ module _ (most : ℕ) where
   kept_fits s zero run fits all = All-push (Fits run.shape) run.states s all fits
   kept_fits s (suc n) run fits all = all
 
-  fed_fits : (o : Option Refusal) (stay : ℤ) (values : List ℤ) (m : Meaning) → (o ≡ None → Fits m.run.shape (offered stay values)) → AllFit m → AllFit (fed o stay values m)
-  fed_fits (Some r) stay values m fits all = all
-  fed_fits None stay values m fits all = kept_fits (offered stay values) m.lead m.run (fits refl) all
+  fed_fits : (refused : Option Refusal) (o : Offered) (m : Meaning) → (refused ≡ None → Fits m.run.shape (state_of o)) → AllFit m → AllFit (fed refused o m)
+  fed_fits refused o m fits all = grind (arith, kept_fits)
 
   closed_fits : (o : Option Refusal) (m : Meaning) (mark : Mark) → AllFit m → AllFit (after o m (record { run = record { shape = m.run.shape; states = m.run.states; mark = mark }; lead = m.lead }))
-  closed_fits (Some r) m mark all = all
-  closed_fits None m mark all = all
+  closed_fits o m mark all = grind arith
 
   stepped_fits : (s : Step) (m : Meaning) → AllFit m → AllFit (stepped most s m)
-  stepped_fits (feeds free need stay values) m all =
-      fed_fits (feed_refusal most free need m stay values) stay values m
-      (λ e. offered_fits m.run.shape most stay values (neither_refused _ (full free need) (not_refused (ended m.run.mark) refusal.Ended _ e).1)) all
-  stepped_fits closes m all = closed_fits (close_refusal m) m Closed all
+  stepped_fits s m all = grind (arith, fed_fits, offered_fits, taken_lawful, closed_fits)
 
 pub states_fit : StatesFit
 states_fit most m all [] = all

@@ -1,5 +1,5 @@
 -- Numbers that are known and the only ones: of computations, and along some states. Assumes nothing.
-use Rattle.std.proofs.Common.{◌≡◌, ℕ, List, [], ◌∷◌, ℤ, Some, Option, refl, ap, ◌∙◌, ap₂, inl, inr}
+use Rattle.std.proofs.Common.{◌≡◌, ℕ, List, [], ◌∷◌, ℤ, Some, Option, refl, inl, inr, arith}
 use mathlib.Core.List.{foldr}
 use Rattle.std.specs.Option.{option_map}
 use Rattle.verdicts.specs.Truth.{Pairwise}
@@ -14,20 +14,10 @@ pub record Only (P : ℤ → Type 0) (found : Option ℤ) : Type 0 where
   pub only : (other : ℤ) → P other → other ≡ number
 
 pub only_mapped : (f : ℤ → ℤ) (P : ℤ → Type 0) (x : Option ℤ) → Only P x → Only (λ z. (a : ℤ) × P a × (z ≡ f a)) (option_map f x)
-only_mapped f P x found = record {
-  number = f found.number;
-  known = ap (option_map f) found.known;
-  is = (found.number, found.is, refl);
-  only = λ other o. o.2 ∙ ap f (found.only o.0 o.1);
-}
+only_mapped f P x found = grind arith
 
 pub only_both : (f : ℤ → ℤ → ℤ) (P Q : ℤ → Type 0) (x y : Option ℤ) → Only P x → Only Q y → Only (λ z. (a : ℤ) × (b : ℤ) × P a × Q b × (z ≡ f a b)) (both f x y)
-only_both f P Q x y left right' = record {
-  number = f left.number right'.number;
-  known = ap₂ (both f) left.known right'.known;
-  is = (left.number, right'.number, left.is, right'.is, refl);
-  only = λ other o. o.4 ∙ ap₂ f (left.only o.0 o.2) (right'.only o.1 o.3);
-}
+only_both f P Q x y left right' = grind arith
 
 -- the values at some states
 pub record OnlyAll (P : ℕ → ℤ → Type 0) (js : List ℕ) (found : Option (List ℤ)) : Type 0 where
@@ -38,12 +28,10 @@ pub record OnlyAll (P : ℕ → ℤ → Type 0) (js : List ℕ) (found : Option 
 
 only_cons : (P : ℕ → ℤ → Type 0) (j : ℕ) (js : List ℕ) (x : ℤ) (xs : List ℤ) → ((y : ℤ) → P j y → y ≡ x) → ((ys : List ℤ) → Pairwise P js ys → ys ≡ xs)
     → (ys : List ℤ) → Pairwise P (j ∷ js) ys → ys ≡ x ∷ xs
-only_cons P j js x xs first rest [] h = absurd h
-only_cons P j js x xs first rest (y ∷ ys) h = ap₂ ◌∷◌ (first y h.0) (rest ys h.1)
+only_cons P j js x xs first rest ys h = grind arith
 
 only_none : (P : ℕ → ℤ → Type 0) (ys : List ℤ) → Pairwise P [] ys → ys ≡ []
-only_none P [] h = refl
-only_none P (y ∷ ys) h = absurd h
+only_none P ys h = grind arith
 
 pub all_told : (P : ℕ → ℤ → Type 0) (f : ℕ → Option ℤ) (js : List ℕ) → ((j : ℕ) → Among j js → Only (P j) (f j)) → OnlyAll P js (foldr (λ j xs. both ◌∷◌ (f j) xs) (Some []) js)
 all_told P f [] each = record { numbers = []; known = refl; is = tt; only = only_none P }

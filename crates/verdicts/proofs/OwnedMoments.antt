@@ -1,8 +1,8 @@
 -- To which state a moment belongs, told state by state from the first one on. Assumes nothing.
-use Rattle.std.proofs.Common.{◌≡◌, ℕ, zero, suc, ◌+◌, ◌-◌, ◌<◌, ◌≤◌, true, false, leb, List, [], ◌∷◌, length, take, drop, refl, ap, inl, inr, arith}
+use Rattle.std.proofs.Common.{◌≡◌, ℕ, zero, suc, ◌+◌, ◌-◌, ◌<◌, ◌≤◌, true, false, leb, List, [], ◌∷◌, length, take, drop, inl, inr, arith}
 use Rattle.std.proofs.lemmas.List.{length-drop}
 use Rattle.std.proofs.lemmas.List.Sums.{sum_by-cons}
-use Rattle.std.proofs.lemmas.Bool.{and_from, and_parts, false≢true, le-leb, leb-false, leb-true, or_cases, or_left, or_parts, or_right}
+use Rattle.std.proofs.lemmas.Bool.{and_from, and_parts, le-leb, leb-false, leb-true, or_cases, or_left, or_parts, or_right}
 use Rattle.runs.specs.Moments.{Belongs}
 use Rattle.runs.specs.Runs.{State, endures, ticks}
 use Rattle.runs.specs.declared.shape.Mark.{Mark}
@@ -11,13 +11,10 @@ use Rattle.verdicts.specs.Tours.{is_last, within}
 
 -- a later moment within a state has the earlier ones there or before
 pub within_order : (mark : Mark) (a b : ℕ) (s : State) (r : List State) → a ≤ b → within mark b s r ≡ true → within mark a s r ≡ true
-within_order mark a b s r h e = elim (or_cases (leb b s.stay) _ e) [
-  | inl e' ↦ or_left (leb a s.stay) _ (le-leb a s.stay (omega (arith, leb-true b s.stay e')))
-  | inr e' ↦ or_right (leb a s.stay) _ e'
-]
+within_order mark a b s r h e = grind arith
 
 pub not_within : (mark : Mark) (t : ℕ) (s : State) (r : List State) → within mark t s r ≡ false → s.stay < t
-not_within mark t s r h = leb-false t s.stay (or_parts (leb t s.stay) _ h).0
+not_within mark t s r h = grind (arith, leb-false, or_parts)
 
 abbrev pub Owns : Mark → ℕ → List State → ℕ → Type 0
 Owns mark t [] j = ⊥
@@ -32,19 +29,14 @@ later_end s r k = let outer : suc (suc k) - 0 ≡ suc (suc k) = omega arith in l
     rw (outer, inner) (sum_by-cons (λ (x : State). x.stay) s (take (suc k) r))
 
 last_from_length : (r : List State) → 1 ≡ length r + 1 → is_last r ≡ true
-last_from_length [] h = refl
-last_from_length (n ∷ r) h = absurd (omega arith)
+last_from_length r h = grind arith
 
 length_from_last : (r : List State) → is_last r ≡ true → length r ≡ 0
-length_from_last [] h = refl
-length_from_last (n ∷ r) h = absurd (false≢true h)
+length_from_last r h = grind arith
 
 pub belongs_owns : (mark : Mark) (t : ℕ) (run : List State) (j : ℕ) → Belongs mark run 0 t j → Owns mark t run j
 belongs_owns mark t [] j b = absurd (omega (arith, b.there))
-belongs_owns mark t (s ∷ r) zero b = elim b.reached [
-  | inl h ↦ or_left (leb t s.stay) _ (le-leb t s.stay (omega (arith, first_end s r)))
-  | inr h ↦ or_right (leb t s.stay) _ (and_from (endures mark) (is_last r) h.0 (last_from_length r (omega (arith, h.1))))
-]
+belongs_owns mark t (s ∷ r) zero b = grind (arith, or_left, le-leb, first_end, or_right, and_from, last_from_length)
 belongs_owns mark t (s ∷ r) (suc j) b =
     let past : s.stay < t = omega (arith, b.least 0 (omega arith) (omega arith), first_end s r) in (
       past,
@@ -81,7 +73,7 @@ owns_belongs mark t (s ∷ r) (suc j) o =
     past b (suc k) below = omega (arith, o.0, b.least k (omega arith) (omega arith), later_end s r k)
 
 counted_end : (run : List State) (i k : ℕ) → ticks (take (suc (i + k) - i) (drop i run)) ≡ ticks (take (suc k - 0) (drop 0 (drop i run)))
-counted_end run i k = ap (λ n. ticks (take n (drop i run))) (omega arith)
+counted_end run i k = grind arith
 
 counted_here : (mark : Mark) (run : List State) (i t j : ℕ) → Belongs mark run i t (i + j) → Belongs mark (drop i run) 0 t j
 counted_here mark run i t j b = record {

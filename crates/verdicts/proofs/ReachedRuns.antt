@@ -1,22 +1,22 @@
 -- Once a run is closed, or its stays add up to the reach of a formula, its verdict is decided. Assumes nothing.
-use Rattle.std.proofs.Common.{◌≡◌, ℕ, zero, suc, ◌+◌, ◌-◌, ◌*◌, ◌<◌, ◌≤◌, max, Bool, true, false, List, [], ◌∷◌, length, drop, ℤ, pos, ◌-ℤ◌, ◌*ℤ◌, Some, None, Option, refl, inl, inr, suc-mul, arith}
+use Rattle.std.proofs.Common.{◌≡◌, ℕ, zero, suc, ◌+◌, ◌-◌, ◌*◌, ◌<◌, ◌≤◌, max, Bool, true, false, List, [], ◌∷◌, length, drop, ℤ, pos, Some, None, Option, refl, inl, inr, suc-mul, arith}
 use Rattle.std.specs.Option.{option_map}
 use Rattle.std.specs.List.{AllByRecursion}
 use Rattle.std.proofs.ByRecursion.{All-drop}
 use Rattle.std.proofs.lemmas.Option.{slice_get-get_or}
 use Rattle.std.proofs.lemmas.List.Sums.{sum_by-cons}
-use Rattle.std.proofs.lemmas.Bool.{ltb-true, true≢false}
+use Rattle.std.proofs.lemmas.Bool.{ltb-true}
 use Rattle.parts.specs.Formulas.{Measure, numeral, variable, unary, binary, over, Property, compare, prefixed, joined}
 use Rattle.parts.specs.Limits.{lawful, lawful_measure}
 use Rattle.parts.specs.declared.kinds.Comparator.{Comparator}
 use Rattle.parts.specs.declared.kinds.Connective.TheVariants.{And, Or, Implies, Iff, Until}
 use Rattle.parts.specs.declared.kinds.Prefix.TheVariants.{Not, Next, Eventually, Always}
+use Rattle.parts.specs.declared.kinds.Quantity.TheVariants.{Value, Change}
 use Rattle.runs.specs.Runs.{State, ticks, value_at}
 use Rattle.runs.specs.declared.shape.Mark.{Mark}
 use Rattle.runs.specs.declared.shape.Shape.{Shape}
 use Rattle.verdicts.proofs.ClosedRuns.{two_valued}
 use Rattle.verdicts.proofs.LawfulFormulas.{binary_parts, compare_parts, joined_parts, over_parts, prefixed_parts, unary_parts}
-use Rattle.verdicts.proofs.VerdictOrder.{false≢undecided, true≢undecided}
 use Rattle.verdicts.proofs.OwnedMoments.{not_within}
 use Rattle.verdicts.specs.Arithmetic.{compares, of_many, of_one, of_two}
 use Rattle.verdicts.specs.Begins.{Fits}
@@ -24,7 +24,7 @@ use Rattle.verdicts.specs.Laws.{Settles}
 use Rattle.verdicts.specs.Reach.{measure_reach, reach_of}
 use Rattle.verdicts.specs.Tables.{decided, greater, lesser, swap}
 use Rattle.verdicts.specs.Tours.{tour, tour_at, within}
-use Rattle.verdicts.specs.Verdicts.{always_step, both, collect, compared, eventually_step, further, rise, rises, until_step, value, verdict}
+use Rattle.verdicts.specs.Verdicts.{always_step, both, collect, compared, eventually_step, further, rises, until_step, value, verdict}
 use Rattle.verdicts.specs.declared.verdict.Verdict.{Verdict}
 use Rattle.verdicts.specs.declared.verdict.Verdict.TheVariants.{False, True, Undecided}
 
@@ -49,20 +49,16 @@ settled_compared c (known x) (known y) = by_test (compares c x y)
     by_test false = as_false
 
 settled_swap : {v : Verdict} → Settled v → Settled (swap v)
-settled_swap as_false = as_true
-settled_swap as_true = as_false
+settled_swap h = grind (arith, as_false, as_true)
 
 settled_lesser : {v w : Verdict} → Settled v → Settled w → Settled (lesser v w)
-settled_lesser as_false k = as_false
-settled_lesser as_true k = k
+settled_lesser h k = grind arith
 
 settled_greater : {v w : Verdict} → Settled v → Settled w → Settled (greater v w)
-settled_greater as_false k = k
-settled_greater as_true k = as_true
+settled_greater h k = grind arith
 
 settled_decided : {v : Verdict} → Settled v → v ≡ Undecided → ⊥
-settled_decided as_false e = false≢undecided e
-settled_decided as_true e = true≢undecided e
+settled_decided h e = grind arith
 
 ticks_cons : (s : State) (r : List State) → ticks (s ∷ r) ≡ s.stay + ticks r
 ticks_cons s r = sum_by-cons (λ (x : State). x.stay) s r
@@ -71,10 +67,7 @@ ticks_cons s r = sum_by-cons (λ (x : State). x.stay) s r
 module _ {A : Type 0} (Q : A → Type 0) (F : State → Type 0) (join : List State → A → A) (done cut : A) (mark : Mark) (needed : ℕ) (some : 1 ≤ needed) (ends : Q done)
     (joins : (t : List State) → AllByRecursion F t → needed ≤ ticks t → (x : A) → Q x → Q (join t x)) where
   toured_reached : (begun ended : Bool) (t : List State) (x : A) → AllByRecursion F t → needed ≤ ticks t → (ended ≡ false → Q x) → Q (tour_at begun ended (join t) done x)
-  toured_reached true true t x fits enough rest = joins t fits enough done ends
-  toured_reached true false t x fits enough rest = joins t fits enough x (rest refl)
-  toured_reached false true t x fits enough rest = ends
-  toured_reached false false t x fits enough rest = rest refl
+  toured_reached begun ended t x fits enough rest = grind arith
 
   tour_reached : (a b : ℕ) (run : List State) → AllByRecursion F run → needed + b ≤ ticks run → Q (tour join done cut mark a b run)
   tour_reached a b [] fits enough = absurd (omega arith)
@@ -90,7 +83,7 @@ reach_of_measure (binary b m n) = omega (arith, reach_of_measure m)
 reach_of_measure (over s w m) = omega arith
 
 reach_positive : (longest : ℕ) (p : Property) → 1 ≤ reach_of longest p
-reach_positive longest (compare c d m n) = omega (arith, reach_of_measure m)
+reach_positive longest (compare c q m n) = omega (arith, reach_of_measure m)
 reach_positive longest (prefixed x p) = omega (arith, reach_positive longest p)
 reach_positive longest (joined c p q) = omega (arith, reach_positive longest p)
 
@@ -99,7 +92,7 @@ module _ (shape : Shape) (largest : ℕ) (mark : Mark) where
   ticks_dropped : (k : ℕ) (run : List State) → AllByRecursion (Fits shape) run → ticks run ≤ ticks (drop k run) + k * shape.longest
   ticks_dropped zero run fits = omega arith
   ticks_dropped (suc k) [] fits = omega arith
-  ticks_dropped (suc k) (s ∷ r) fits = omega (arith, ticks_dropped k r fits.1, fits.0.stay.1, ticks_cons s r, suc-mul k shape.longest)
+  ticks_dropped (suc k) (s ∷ r) fits = grind (arith, ticks_cons, suc-mul, ticks_dropped k r fits.1)
 
   -- inside a window measure stands no window
   windowless_reach : (m : Measure) → lawful_measure shape.width largest true m ≡ true → measure_reach m ≡ 1
@@ -107,7 +100,7 @@ module _ (shape : Shape) (largest : ℕ) (mark : Mark) where
   windowless_reach (variable v) h = refl
   windowless_reach (unary u m) h = windowless_reach m (unary_parts shape.width largest true u m h).0
   windowless_reach (binary b m n) h = let parts = binary_parts shape.width largest true b m n h in omega (arith, windowless_reach m parts.0, windowless_reach n parts.1)
-  windowless_reach (over s w m) h = absurd (true≢false (over_parts shape.width largest true s w m h).0)
+  windowless_reach (over s w m) h = grind (arith, over_parts)
 
   variable_known : (v : ℕ) → v < shape.width → (run : List State) → AllByRecursion (Fits shape) run → 1 ≤ ticks run → Known (value_at run 0 v)
   variable_known v h [] fits some = absurd (omega arith)
@@ -115,7 +108,7 @@ module _ (shape : Shape) (largest : ℕ) (mark : Mark) where
 
   value_reached : (inside : Bool) (m : Measure) → lawful_measure shape.width largest inside m ≡ true → (run : List State) → AllByRecursion (Fits shape) run → measure_reach m ≤ ticks run → Known (value m mark run)
   value_reached inside (numeral n) h run fits enough = known n
-  value_reached inside (variable v) h run fits enough = variable_known v (ltb-true v shape.width h) run fits enough
+  value_reached inside (variable v) h run fits enough = grind (arith, variable_known, ltb-true)
   value_reached inside (unary u m) h run fits enough = known_mapped (of_one u) (value_reached inside m (unary_parts shape.width largest inside u m h).0 run fits enough)
   value_reached inside (binary b m n) h run fits enough =
       let parts = binary_parts shape.width largest inside b m n h in
@@ -126,23 +119,16 @@ module _ (shape : Shape) (largest : ℕ) (mark : Mark) where
       (λ t fits' enough' x k. known_both ◌∷◌ (value_reached true m parts.2 t fits' (omega (arith, windowless_reach m parts.2))) k) w.first w.last run fits (omega arith))
 
   further_reached : (said : List State → Verdict) (t : List State) → 1 ≤ ticks t → Settled (said t) → Settled (further mark said t)
-  further_reached said [] some h = absurd (omega arith)
-  further_reached said (s ∷ r) some h = h
+  further_reached said t some h = grind arith
 
   rises_reached : (c : Comparator) (m n : List State → Option ℤ) (needed : ℕ) → 1 ≤ needed → ((t : List State) → AllByRecursion (Fits shape) t → needed ≤ ticks t → Known (m t)) → ((t : List State) → AllByRecursion (Fits shape) t → needed ≤ ticks t → Known (n t))
       → (run : List State) → AllByRecursion (Fits shape) run → needed + shape.longest ≤ ticks run → Settled (rises c m n mark run)
-  rises_reached c m n needed some m_known n_known [] fits enough = absurd (omega arith)
-  rises_reached c m n needed some m_known n_known (s ∷ r) fits enough =
-      let rest : needed ≤ ticks r = omega (arith, ticks_cons s r, fits.0.stay.1) in
-      further_reached (rise c m n s r) r (omega arith)
-      (settled_compared c (known_both ◌-ℤ◌ (m_known r fits.1 rest) (m_known (s ∷ r) fits (omega arith))) (known_mapped (λ x. x *ℤ pos s.stay) (n_known (s ∷ r) fits (omega arith))))
+  rises_reached c m n needed some m_known n_known run fits enough = grind (arith, ticks_cons, further_reached, settled_compared, known_both, known_mapped)
 
   verdict_reached : (p : Property) → lawful shape.width largest p ≡ true → (run : List State) → AllByRecursion (Fits shape) run → reach_of shape.longest p ≤ ticks run → Settled (verdict p mark run)
-  verdict_reached (compare c false m n) h run fits enough =
-      let parts = compare_parts shape.width largest c false m n h in
-      settled_compared c (value_reached false m parts.0 run fits (omega arith)) (value_reached false n parts.1 run fits (omega arith))
-  verdict_reached (compare c true m n) h run fits enough =
-      let parts = compare_parts shape.width largest c true m n h in
+  verdict_reached (compare c Value m n) h run fits enough = grind (arith, compare_parts, settled_compared, value_reached)
+  verdict_reached (compare c Change m n) h run fits enough =
+      let parts = compare_parts shape.width largest c Change m n h in
       rises_reached c (value m mark) (value n mark) (max (measure_reach m) (measure_reach n)) (omega (arith, reach_of_measure m))
       (λ t fits' enough'. value_reached false m parts.0 t fits' (omega arith)) (λ t fits' enough'. value_reached false n parts.1 t fits' (omega arith)) run fits enough
   verdict_reached (prefixed Not p) h run fits enough = settled_swap (verdict_reached p (prefixed_parts shape.width largest Not p h).1 run fits (omega arith))

@@ -4,7 +4,7 @@ use Rattle.verdicts.specs.Windows.{Among, Rising}
 
 pub among_suc : (j : ℕ) (js : List ℕ) → Among j (map suc js) → (i : ℕ) × (j ≡ suc i) × Among i js
 among_suc j (i ∷ is) (inl e) = (i, e, inl refl)
-among_suc j (i ∷ is) (inr m) = let rest = among_suc j is m in (rest.0, rest.1, inr rest.2)
+among_suc j (i ∷ is) (inr m) = grind (arith, among_suc j is m)
 among_suc j [] m = absurd m
 
 pub suc_among : (i : ℕ) (js : List ℕ) → Among i js → Among (suc i) (map suc js)
@@ -18,13 +18,10 @@ rising_suc (j ∷ js) h = (λ k m. let found = among_suc k js m in omega (arith,
 
 -- the first number of each list is among the other's, so neither is below the other
 same_first : (j k : ℕ) (js ks : List ℕ) → Rising (j ∷ js) → Rising (k ∷ ks) → Among j (k ∷ ks) → Among k (j ∷ js) → j ≡ k
-same_first j k js ks rj rk (inl e) m = e
-same_first j k js ks rj rk (inr m) (inl e) = sym e
-same_first j k js ks rj rk (inr m) (inr n) = absurd (omega (arith, rk.0 j m, rj.0 k n))
+same_first j k js ks rj rk h e = grind arith
 
 among_rest : (i j k : ℕ) (ks : List ℕ) → j ≡ k → j < i → Among i (k ∷ ks) → Among i ks
-among_rest i j k ks same below (inl e) = absurd (omega arith)
-among_rest i j k ks same below (inr m) = m
+among_rest i j k ks same below h = grind arith
 
 pub same_rising : (js ks : List ℕ) → Rising js → Rising ks → ((j : ℕ) → Among j js → Among j ks) → ((j : ℕ) → Among j ks → Among j js) → js ≡ ks
 same_rising [] [] rj rk into back = refl

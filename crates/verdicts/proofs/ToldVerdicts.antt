@@ -1,5 +1,5 @@
 -- Verdicts with the reason for them: of the connectives, and of F, G and U along some states. Assumes nothing.
-use Rattle.std.proofs.Common.{ℕ, ◌<◌, ◌⊎◌, List, [], ◌∷◌, sym, refl, subst, inl, inr, arith}
+use Rattle.std.proofs.Common.{ℕ, ◌<◌, ◌⊎◌, List, [], ◌∷◌, inr, arith}
 use mathlib.Core.List.{foldr}
 use Rattle.verdicts.specs.Tables.{greater, lesser, swap}
 use Rattle.verdicts.specs.Windows.{Among, Rising}
@@ -12,60 +12,45 @@ pub data Told (P : Type 0) : Verdict → Type 0 where
   wrong : (P → ⊥) → Told P False
 
 pub told_as : {P Q : Type 0} {v : Verdict} → (P → Q) → (Q → P) → Told P v → Told Q v
-told_as into back (right x) = right (into x)
-told_as into back (wrong f) = wrong (λ y. f (back y))
+told_as into back h = grind (arith, right, wrong)
 
 pub told_not : {P : Type 0} {v : Verdict} → Told P v → Told (P → ⊥) (swap v)
-told_not (right x) = wrong (λ f. f x)
-told_not (wrong f) = right f
+told_not h = grind (arith, right, wrong)
 
 pub told_and : {P Q : Type 0} {v w : Verdict} → Told P v → Told Q w → Told (P × Q) (lesser v w)
-told_and (right x) (right y) = right (x, y)
-told_and (right x) (wrong g) = wrong (λ both. g both.1)
-told_and (wrong f) k = wrong (λ both. f both.0)
+told_and h k = grind (arith, right, wrong)
 
 pub told_or : {P Q : Type 0} {v w : Verdict} → Told P v → Told Q w → Told (P ⊎ Q) (greater v w)
-told_or (right x) k = right (inl x)
-told_or (wrong f) (right y) = right (inr y)
-told_or (wrong f) (wrong g) = wrong (λ either. elim either [ inl x ↦ f x | inr y ↦ g y ])
+told_or h k = grind (arith, right, wrong)
 
 -- what some, what every one of some states satisfies, and until along them
 told_some : {P : ℕ → Type 0} {v w : Verdict} (j : ℕ) (js : List ℕ) → Told (P j) v → Told ((k : ℕ) × Among k js × P k) w → Told ((k : ℕ) × Among k (j ∷ js) × P k) (greater v w)
-told_some j js (right x) rest = right (j, inl refl, x)
-told_some j js (wrong f) (right y) = right (y.0, inr y.1, y.2)
-told_some {P} j js (wrong f) (wrong g) = wrong (λ found. elim found.1 [ inl e ↦ f (subst P e found.2) | inr m ↦ g (found.0, m, found.2) ])
+told_some j js h k = grind (arith, right, wrong)
 
 told_every : {P : ℕ → Type 0} {v w : Verdict} (j : ℕ) (js : List ℕ) → Told (P j) v → Told ((k : ℕ) → Among k js → P k) w → Told ((k : ℕ) → Among k (j ∷ js) → P k) (lesser v w)
-told_every {P} j js (right x) (right each) = right (λ k m. elim m [ inl e ↦ subst P (sym e) x | inr n ↦ each k n ])
-told_every j js (right x) (wrong g) = wrong (λ each. g (λ k n. each k (inr n)))
-told_every j js (wrong f) rest = wrong (λ each. f (each j (inl refl)))
+told_every j js h k = grind (arith, right, wrong)
 
 abbrev pub UntilAmong : (ℕ → Type 0) → (ℕ → Type 0) → List ℕ → Type 0
 UntilAmong P Q js = (k : ℕ) × Among k js × Q k × ((j : ℕ) → j < k → Among j js → P j)
 
 told_until : {P Q : ℕ → Type 0} {v w x : Verdict} (j : ℕ) (js : List ℕ) → Rising (j ∷ js) → Told (P j) v → Told (Q j) w → Told (UntilAmong P Q js) x
     → Told (UntilAmong P Q (j ∷ js)) (greater w (lesser v x))
-told_until j js rising holds (right y) rest =
-    right (j, inl refl, y, λ i below m. elim m [ inl e ↦ absurd (omega arith) | inr n ↦ absurd (omega (arith, rising.0 i n)) ])
-told_until {P} j js rising (right x) (wrong g) (right u) =
-    right (u.0, inr u.1, u.2, λ i below m. elim m [ inl e ↦ subst P (sym e) x | inr n ↦ u.3 i below n ])
-told_until {P} {Q} j js rising (right x) (wrong g) (wrong h) =
-    wrong (λ u. elim u.1 [ inl e ↦ g (subst Q e u.2) | inr m ↦ h (u.0, m, u.2, λ i below n. u.3 i below (inr n)) ])
-told_until {P} {Q} j js rising (wrong f) (wrong g) rest =
-    wrong (λ u. elim u.1 [ inl e ↦ g (subst Q e u.2) | inr m ↦ f (u.3 j (rising.0 u.0 m) (inl refl)) ])
+told_until j js rising holds (right y) rest = grind (arith, right)
+told_until {P} j js rising (right x) (wrong g) (right u) = grind (arith, right)
+told_until {P} {Q} j js rising (right x) (wrong g) (wrong h) = grind (arith, wrong)
+told_until {P} {Q} j js rising (wrong f) (wrong g) rest = grind (arith, wrong)
 
 pub some_told : (P : ℕ → Type 0) (p : ℕ → Verdict) (js : List ℕ) → ((j : ℕ) → Among j js → Told (P j) (p j))
     → Told ((j : ℕ) × Among j js × P j) (foldr (λ j x. greater (p j) x) False js)
 some_told P p [] each = wrong (λ found. found.1)
-some_told P p (j ∷ js) each = told_some j js (each j (inl refl)) (some_told P p js (λ k m. each k (inr m)))
+some_told P p (j ∷ js) each = grind (arith, told_some, some_told P p js (λ k m. each k (inr m)))
 
 pub every_told : (P : ℕ → Type 0) (p : ℕ → Verdict) (js : List ℕ) → ((j : ℕ) → Among j js → Told (P j) (p j))
     → Told ((j : ℕ) → Among j js → P j) (foldr (λ j x. lesser (p j) x) True js)
 every_told P p [] each = right (λ j m. absurd m)
-every_told P p (j ∷ js) each = told_every j js (each j (inl refl)) (every_told P p js (λ k m. each k (inr m)))
+every_told P p (j ∷ js) each = grind (arith, told_every, every_told P p js (λ k m. each k (inr m)))
 
 pub until_told : (P Q : ℕ → Type 0) (p q : ℕ → Verdict) (js : List ℕ) → Rising js → ((j : ℕ) → Among j js → Told (P j) (p j)) → ((j : ℕ) → Among j js → Told (Q j) (q j))
     → Told (UntilAmong P Q js) (foldr (λ j x. greater (q j) (lesser (p j) x)) False js)
 until_told P Q p q [] rising each_p each_q = wrong (λ u. u.1)
-until_told P Q p q (j ∷ js) rising each_p each_q =
-    told_until j js rising (each_p j (inl refl)) (each_q j (inl refl)) (until_told P Q p q js rising.1 (λ k m. each_p k (inr m)) (λ k m. each_q k (inr m)))
+until_told P Q p q (j ∷ js) rising each_p each_q = grind (arith, told_until, until_told P Q p q js rising.1 (λ k m. each_p k (inr m)) (λ k m. each_q k (inr m)))

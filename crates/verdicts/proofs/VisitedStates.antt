@@ -1,10 +1,10 @@
 -- A tour joins the states to which some moment of its window belongs, each once, in order; and it is a fold over them. Assumes nothing.
-use Rattle.std.proofs.Common.{◌≡◌, ℕ, zero, suc, ◌+◌, ◌-◌, ◌<◌, ◌≤◌, Bool, true, false, cond, leb, ◌⊎◌, List, [], ◌∷◌, map, drop, sym, refl, ap, ◌∙◌, inl, inr, arith}
+use Rattle.std.proofs.Common.{◌≡◌, ℕ, zero, suc, ◌+◌, ◌-◌, ◌≤◌, Bool, true, false, cond, ◌⊎◌, List, [], ◌∷◌, map, drop, sym, refl, ap, ◌∙◌, inl, inr, arith}
 use mathlib.Core.List.{foldr}
-use Rattle.std.proofs.lemmas.Bool.{and_right, false≢true, le-leb, lt-leb, or_from, or_left, true≢false}
+use Rattle.std.proofs.lemmas.Bool.{le-leb, or_left}
 use Rattle.std.specs.List.{AllByRecursion}
 use Rattle.parts.specs.declared.kinds.Window.{Window}
-use Rattle.runs.specs.Runs.{State, endures}
+use Rattle.runs.specs.Runs.{State}
 use Rattle.runs.specs.declared.shape.Mark.{Mark}
 use Rattle.verdicts.proofs.OwnedMoments.{Owns, belongs_owns, not_within, owns_belongs, within_order}
 use Rattle.verdicts.proofs.RisingNumbers.{among_suc, rising_suc, suc_among}
@@ -31,10 +31,7 @@ module _ {A : Type 0} (join : List State → A → A) (done cut : A) (mark : Mar
       → x ≡ foldr (λ j y. join (drop j r) y) (cond w done cut) js
       → tour_at begun ended (join (s ∷ r)) done x
       ≡ foldr (λ j y. join (drop j (s ∷ r)) y) (cond (tour_at begun ended (λ told. told) true w) done cut) (tour_at begun ended (λ ks. 0 ∷ ks) [] (map suc js))
-  fold_toured true true s r w x js e = refl
-  fold_toured true false s r w x js e = ap (join (s ∷ r)) (e ∙ sym (fold_after s r (cond w done cut) js))
-  fold_toured false true s r w x js e = refl
-  fold_toured false false s r w x js e = e ∙ sym (fold_after s r (cond w done cut) js)
+  fold_toured begun ended s r w x js e = grind (arith, fold_after)
 
   pub tour_folds : (a b : ℕ) (run : List State)
       → tour join done cut mark a b run ≡ foldr (λ j x. join (drop j run) x) (cond (whole_from mark a b run) done cut) (places mark a b run)
@@ -49,32 +46,20 @@ fold_cons f told (j ∷ js) = ap (λ x. f j ∷ x) (fold_cons f told js)
 
 -- which numbers those are
 toured_among : (begun ended : Bool) (js : List ℕ) (j : ℕ) → Among j (tour_at begun ended (λ ks. 0 ∷ ks) [] js) → ((begun ≡ true) × (j ≡ 0)) ⊎ ((ended ≡ false) × Among j js)
-toured_among true true js j (inl e) = inl (refl, e)
-toured_among true true js j (inr m) = absurd m
-toured_among true false js j (inl e) = inl (refl, e)
-toured_among true false js j (inr m) = inr (refl, m)
-toured_among false true js j m = absurd m
-toured_among false false js j m = inr (refl, m)
+toured_among begun ended js j h = grind arith
 
 first_among : (begun ended : Bool) (js : List ℕ) → begun ≡ true → Among 0 (tour_at begun ended (λ ks. 0 ∷ ks) [] js)
-first_among true true js h = inl refl
-first_among true false js h = inl refl
-first_among false ended js h = absurd (false≢true h)
+first_among begun ended js h = grind arith
 
 later_among : (begun ended : Bool) (js : List ℕ) (j : ℕ) → ended ≡ false → Among j js → Among j (tour_at begun ended (λ ks. 0 ∷ ks) [] js)
-later_among begun true js j h m = absurd (true≢false h)
-later_among true false js j h m = inr m
-later_among false false js j h m = m
+later_among begun ended js j h m = grind arith
 
 toured_rising : (begun ended : Bool) (js : List ℕ) → Rising js → Rising (tour_at begun ended (λ ks. 0 ∷ ks) [] (map suc js))
-toured_rising true true js h = (λ k m. absurd m, tt)
-toured_rising true false js h = (λ k m. let found = among_suc k js m in omega (arith, found.1), rising_suc js h)
-toured_rising false true js h = tt
-toured_rising false false js h = rising_suc js h
+toured_rising begun ended js h = grind (arith, among_suc, rising_suc)
 
 places_rising : (mark : Mark) (a b : ℕ) (run : List State) → Rising (places mark a b run)
 places_rising mark a b [] = tt
-places_rising mark a b (s ∷ r) = toured_rising (within mark a s r) (within mark b s r) _ (places_rising mark (a - s.stay) (b - s.stay) r)
+places_rising mark a b (s ∷ r) = grind (arith, toured_rising, places_rising mark (a - s.stay) (b - s.stay) r)
 
 -- some moment from a to b belongs to state j
 abbrev Seen : Mark → ℕ → ℕ → List State → ℕ → Type 0
@@ -83,7 +68,7 @@ Seen mark a b run j = (t : ℕ) × (a ≤ t) × (t ≤ b) × Owns mark t run j
 -- moment 0 belongs where moment 1 does
 at_one : (mark : Mark) (r : List State) (j : ℕ) → AllByRecursion (λ s. 1 ≤ s.stay) r → Owns mark 0 r j → Owns mark 1 r j
 at_one mark [] j stays o = absurd o
-at_one mark (s ∷ r) zero stays o = or_left (leb 1 s.stay) _ (le-leb 1 s.stay stays.0)
+at_one mark (s ∷ r) zero stays o = grind (arith, or_left, le-leb)
 at_one mark (s ∷ r) (suc j) stays o = absurd (omega (arith, o.0))
 
 module _ (mark : Mark) (a b : ℕ) (s : State) (r : List State) (past : within mark b s r ≡ false) where
@@ -100,13 +85,8 @@ module _ (mark : Mark) (a b : ℕ) (s : State) (r : List State) (past : within m
   seen_later : (j : ℕ) → AllByRecursion (λ s. 1 ≤ s.stay) r → Seen mark (a - s.stay) (b - s.stay) r j → Seen mark a b (s ∷ r) (suc j)
   seen_later j stays seen = moment_later seen.0 j stays seen.1 seen.2 seen.3
 
-ends_later : (mark : Mark) (b t : ℕ) (s : State) (r : List State) (j : ℕ) → t ≤ b → s.stay < t → Owns mark (t - s.stay) r j → within mark b s r ≡ false
-ends_later mark b t s [] j low past o = absurd o
-ends_later mark b t s (n ∷ r) j low past o = or_from (leb b s.stay) _ (lt-leb b s.stay (omega arith)) (and_right (endures mark) false refl)
-
 seen_rest : (mark : Mark) (a b : ℕ) (s : State) (r : List State) (j : ℕ) → Seen mark a b (s ∷ r) (suc j) → (within mark b s r ≡ false) × Seen mark (a - s.stay) (b - s.stay) r j
-seen_rest mark a b s r j (t, low, high, o) =
-    (ends_later mark b t s r j high o.0 o.1, (t - s.stay, omega arith, omega arith, o.1))
+seen_rest mark a b s r j h = grind arith
 
 places_seen : (mark : Mark) (a b : ℕ) → a ≤ b → (run : List State) → AllByRecursion (λ s. 1 ≤ s.stay) run → (j : ℕ) → Among j (places mark a b run) → Seen mark a b run j
 places_seen mark a b order [] stays j m = absurd m
@@ -118,7 +98,7 @@ places_seen mark a b order (s ∷ r) stays j m = elim (toured_among (within mark
 
 seen_places : (mark : Mark) (a b : ℕ) (run : List State) (j : ℕ) → Seen mark a b run j → Among j (places mark a b run)
 seen_places mark a b [] j seen = absurd seen.3
-seen_places mark a b (s ∷ r) zero seen = first_among (within mark a s r) (within mark b s r) _ (within_order mark a seen.0 s r seen.1 seen.3)
+seen_places mark a b (s ∷ r) zero seen = grind (arith, first_among, within_order)
 seen_places mark a b (s ∷ r) (suc j) seen =
     let rest = seen_rest mark a b s r j seen in
     later_among (within mark a s r) (within mark b s r) _ (suc j) rest.0 (suc_among j _ (seen_places mark (a - s.stay) (b - s.stay) r j rest.1))

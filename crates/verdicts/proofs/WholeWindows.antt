@@ -1,5 +1,5 @@
 -- A window is whole where its last moment has a state, and so always on a closed run. Assumes nothing.
-use Rattle.std.proofs.Common.{◌≡◌, ℕ, zero, suc, ◌-◌, ◌<◌, Bool, true, false, ◌||◌, leb, List, [], ◌∷◌, length, sym, refl, ap, ◌∙◌, inl, inr, arith}
+use Rattle.std.proofs.Common.{◌≡◌, ℕ, zero, suc, ◌-◌, ◌<◌, Bool, true, ◌||◌, List, [], ◌∷◌, length, sym, ap, ◌∙◌, inl, inr, arith}
 use Rattle.std.proofs.lemmas.Bool.{and_from, cases_Bool, false≢true, or_left, or_right}
 use Rattle.runs.specs.Runs.{State, endures}
 use Rattle.runs.specs.declared.shape.Mark.{Mark}
@@ -9,10 +9,7 @@ use Rattle.verdicts.specs.Tours.{tour_at, within}
 use Rattle.verdicts.proofs.VisitedStates.{whole_from}
 
 whole_toured : (begun ended told : Bool) → tour_at begun ended (λ x. x) true told ≡ (ended || told)
-whole_toured true true told = refl
-whole_toured true false told = refl
-whole_toured false true told = refl
-whole_toured false false told = refl
+whole_toured begun ended told = grind arith
 
 whole_owned : (mark : Mark) (a b : ℕ) (run : List State) → whole_from mark a b run ≡ true → (j : ℕ) × Owns mark b run j
 whole_owned mark a b [] h = absurd (false≢true h)
@@ -24,9 +21,8 @@ whole_owned mark a b (s ∷ r) h = elim (cases_Bool (within mark b s r)) [
 
 owned_whole : (mark : Mark) (a b : ℕ) (run : List State) (j : ℕ) → Owns mark b run j → whole_from mark a b run ≡ true
 owned_whole mark a b [] j o = absurd o
-owned_whole mark a b (s ∷ r) zero o = whole_toured (within mark a s r) (within mark b s r) _ ∙ or_left (within mark b s r) _ o
-owned_whole mark a b (s ∷ r) (suc j) o =
-    whole_toured (within mark a s r) (within mark b s r) _ ∙ or_right (within mark b s r) _ (owned_whole mark (a - s.stay) (b - s.stay) r j o.1)
+owned_whole mark a b (s ∷ r) zero o = grind (arith, whole_toured, or_left)
+owned_whole mark a b (s ∷ r) (suc j) o = grind (arith, whole_toured, or_right, owned_whole mark (a - s.stay) (b - s.stay) r j o.1)
 
 pub whole_by_moment : WholeByMoment
 whole_by_moment mark w run = (
@@ -37,6 +33,5 @@ whole_by_moment mark w run = (
 -- on a closed run every window is whole
 pub closed_whole : (mark : Mark) → endures mark ≡ true → (a b : ℕ) (run : List State) → 0 < length run → whole_from mark a b run ≡ true
 closed_whole mark closed a b [] some = absurd (omega arith)
-closed_whole mark closed a b (s ∷ []) some = whole_toured (within mark a s []) (within mark b s []) _ ∙ or_left (within mark b s []) _ (or_right (leb b s.stay) _ (and_from (endures mark) true closed refl))
-closed_whole mark closed a b (s ∷ n ∷ r) some =
-    whole_toured (within mark a s (n ∷ r)) (within mark b s (n ∷ r)) _ ∙ or_right (within mark b s (n ∷ r)) _ (closed_whole mark closed (a - s.stay) (b - s.stay) (n ∷ r) (omega arith))
+closed_whole mark closed a b (s ∷ []) some = grind (arith, whole_toured, or_left, or_right, and_from)
+closed_whole mark closed a b (s ∷ n ∷ r) some = grind (arith, whole_toured, or_right, closed_whole mark closed (a - s.stay) (b - s.stay) (n ∷ r) (omega arith))

@@ -1,5 +1,5 @@
 -- Measures over a window, F, G and U, told along a tour, are as their rules say over the visited states. Assumes nothing.
-use Rattle.std.proofs.Common.{◌≡◌, ℕ, suc, Bool, true, false, cond, List, [], ◌∷◌, map, length, get_or, take, ℤ, Some, None, Option, sym, refl, ap, ◌∙◌, ap₂}
+use Rattle.std.proofs.Common.{◌≡◌, ℕ, suc, Bool, cond, List, [], ◌∷◌, map, length, ℤ, Some, None, Option, sym, refl, ap, ◌∙◌, arith}
 use mathlib.Core.List.{foldr}
 use Rattle.std.specs.Option.{option_map}
 use Rattle.parts.specs.declared.kinds.Statistic.{Statistic}
@@ -10,10 +10,9 @@ use Rattle.verdicts.specs.Arithmetic.{of_many}
 use Rattle.verdicts.specs.Laws.{WindowsByRule}
 use Rattle.verdicts.specs.Rules.{all_known, below, greatest, least, statistic_rule, until_at}
 use Rattle.verdicts.specs.Tables.{greater, lesser}
-use Rattle.verdicts.specs.Tours.{visited, whole}
-use Rattle.verdicts.specs.Verdicts.{always_step, both, collect, eventually_step, until_step, value, verdict}
+use Rattle.verdicts.specs.Verdicts.{always_step, both, collect, eventually_step, until_step}
 use Rattle.verdicts.specs.declared.verdict.Verdict.{Verdict}
-use Rattle.verdicts.specs.declared.verdict.Verdict.TheVariants.{False, True, Undecided}
+use Rattle.verdicts.specs.declared.verdict.Verdict.TheVariants.{False, Undecided}
 
 collect_none : (m : List State → Option ℤ) (ts : List (List State)) → foldr (collect m) None ts ≡ None
 collect_none m [] = refl
@@ -28,62 +27,42 @@ collect_all m [] = refl
 collect_all m (t ∷ ts) = ap (both ◌∷◌ (m t)) (collect_all m ts)
 
 fold_statistic : (s : Statistic) (m : List State → Option ℤ) (told : Bool) (ts : List (List State)) → option_map (of_many s) (foldr (collect m) (cond told (Some []) None) ts) ≡ statistic_rule s m told ts
-fold_statistic s m true ts = ap (option_map (of_many s)) (collect_all m ts)
-fold_statistic s m false ts = ap (option_map (of_many s)) (collect_none m ts)
+fold_statistic s m told ts = grind (arith, collect_all, collect_none)
 
 module _ (p : List State → Verdict) where
   fold_eventually : (end : Verdict) (ts : List (List State)) → foldr (eventually_step p) end ts ≡ greater (greatest (map p ts)) end
   fold_eventually end [] = refl
-  fold_eventually end (t ∷ ts) = ap (greater (p t)) (fold_eventually end ts) ∙ sym (greater_assoc (p t) (greatest (map p ts)) end)
+  fold_eventually end (t ∷ ts) = grind (arith, greater_assoc, fold_eventually end ts)
 
   fold_always : (end : Verdict) (ts : List (List State)) → foldr (always_step p) end ts ≡ lesser (least (map p ts)) end
   fold_always end [] = refl
-  fold_always end (t ∷ ts) = ap (lesser (p t)) (fold_always end ts) ∙ sym (lesser_assoc (p t) (least (map p ts)) end)
+  fold_always end (t ∷ ts) = grind (arith, lesser_assoc, fold_always end ts)
 
 -- a lesser with one verdict goes into a greatest, where each of the others takes it
 greatest_lesser : (v : Verdict) (f g : ℕ → Verdict) → ((k : ℕ) → g (suc k) ≡ lesser v (f k)) → (ks : List ℕ) → greatest (map g (map suc ks)) ≡ lesser v (greatest (map f ks))
 greatest_lesser v f g each [] = sym (lesser_false v)
-greatest_lesser v f g each (k ∷ ks) = ap₂ greater (each k) (greatest_lesser v f g each ks) ∙ sym (lesser_greater v (f k) (greatest (map f ks)))
+greatest_lesser v f g each (k ∷ ks) = grind (arith, lesser_greater, greatest_lesser v f g each ks)
 
 swap_lessers : (u v w : Verdict) → lesser u (lesser v w) ≡ lesser v (lesser u w)
-swap_lessers u v w = sym (lesser_assoc u v w) ∙ ap (λ x. lesser x w) (lesser_comm u v) ∙ lesser_assoc v u w
+swap_lessers u v w = grind (arith, lesser_assoc, lesser_comm)
 
 module _ (p q : List State → Verdict) where
   abbrev untils : List (List State) → Verdict
   untils ts = greatest (map (until_at p q ts) (below (length ts)))
 
   untils_cons : (t : List State) (ts : List (List State)) → untils (t ∷ ts) ≡ greater (q t) (lesser (p t) (untils ts))
-  untils_cons t ts =
-      ap₂ greater (lesser_true (q t))
-      (greatest_lesser (p t) (until_at p q ts) (until_at p q (t ∷ ts)) (λ k. swap_lessers (q (get_or ts k [])) (p t) (least (map p (take k ts)))) (below (length ts)))
+  untils_cons t ts = grind (arith, lesser_true, greatest_lesser, swap_lessers)
 
   -- what a visited state adds, from the verdicts after it: v of the untils, l the least of p, and the end
   step : (a b v l end : Verdict) → greater b (lesser a (greater v (lesser l end))) ≡ greater (greater b (lesser a v)) (lesser (lesser a l) end)
-  step a b v l end =
-      ap (greater b) (lesser_greater a v (lesser l end))
-      ∙ sym (greater_assoc b (lesser a v) (lesser a (lesser l end)))
-      ∙ ap (greater (greater b (lesser a v))) (sym (lesser_assoc a l end))
+  step a b v l end = grind arith
 
   fold_until : (end : Verdict) (ts : List (List State)) → foldr (until_step p q) end ts ≡ greater (untils ts) (lesser (least (map p ts)) end)
   fold_until end [] = refl
-  fold_until end (t ∷ ts) =
-      ap (λ x. greater (q t) (lesser (p t) x)) (fold_until end ts)
-      ∙ step (p t) (q t) (untils ts) (least (map p ts)) end
-      ∙ ap (λ x. greater x (lesser (lesser (p t) (least (map p ts))) end)) (sym (untils_cons t ts))
+  fold_until end (t ∷ ts) = grind (arith, step, untils_cons, fold_until end ts)
 
   end_until : (told : Bool) (l : Verdict) → lesser l (cond told False Undecided) ≡ cond told False (lesser Undecided l)
-  end_until true l = lesser_false l
-  end_until false l = lesser_comm l Undecided
+  end_until told l = grind arith
 
 pub windows_by_rule : WindowsByRule
-windows_by_rule mark w run s m p q =
-    let ts = visited mark w run in
-    record {
-      measure = ap (option_map (of_many s)) (over_visited (collect (value m mark)) (Some []) None mark w run) ∙ fold_statistic s (value m mark) (whole mark w run) ts;
-      eventually = over_visited (eventually_step (verdict p mark)) False Undecided mark w run ∙ fold_eventually (verdict p mark) _ ts;
-      always = over_visited (always_step (verdict p mark)) True Undecided mark w run ∙ fold_always (verdict p mark) _ ts;
-      until =
-          over_visited (until_step (verdict p mark) (verdict q mark)) False Undecided mark w run
-          ∙ fold_until (verdict p mark) (verdict q mark) _ ts
-          ∙ ap (greater (untils (verdict p mark) (verdict q mark) ts)) (end_until (verdict p mark) (verdict q mark) (whole mark w run) (least (map (verdict p mark) ts)));
-    }
+windows_by_rule mark w run s m p q = grind (arith, over_visited, fold_statistic, fold_eventually, fold_always, fold_until, end_until)

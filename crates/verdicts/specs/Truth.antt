@@ -1,8 +1,9 @@
 -- What holds on a closed run, told by moments. A run is told from the state that the formula is asked at on. Assumes nothing.
-use Rattle.std.specs.Prelude.{◌≡◌, ℕ, ◌<◌, true, false, ◌⊎◌, List, [], ◌∷◌, length, drop, ℤ, pos, ◌-ℤ◌, ◌*ℤ◌, Some}
+use Rattle.std.specs.Prelude.{◌≡◌, ℕ, ◌<◌, true, ◌⊎◌, List, [], ◌∷◌, length, drop, ℤ, pos, ◌-ℤ◌, ◌*ℤ◌, Some}
 use Rattle.parts.specs.Formulas.{Measure, numeral, variable, unary, binary, over, Property, compare, prefixed, joined}
 use Rattle.parts.specs.declared.kinds.Connective.TheVariants.{And, Or, Implies, Iff, Until}
 use Rattle.parts.specs.declared.kinds.Prefix.TheVariants.{Not, Next, Eventually, Always}
+use Rattle.parts.specs.declared.kinds.Quantity.TheVariants.{Value, Change}
 use Rattle.runs.specs.Runs.{State, stay_at, value_at}
 use Rattle.runs.specs.declared.shape.Mark.TheVariants.{Closed}
 use Rattle.verdicts.specs.Arithmetic.{compares, of_many, of_one, of_two}
@@ -24,8 +25,8 @@ Number (binary b m n) run z = (x : ℤ) × (y : ℤ) × Number m run x × Number
 Number (over s w m) run z = (js : List ℕ) × (xs : List ℤ) × InOrder Closed w run js × Pairwise (λ j x. Number m (drop j run) x) js xs × (z ≡ of_many s xs)
 
 abbrev pub Holds : Property → List State → Type 0
-Holds (compare c false m n) run = (x : ℤ) × (y : ℤ) × Number m run x × Number n run y × (compares c x y ≡ true)
-Holds (compare c true m n) run =
+Holds (compare c Value m n) run = (x : ℤ) × (y : ℤ) × Number m run x × Number n run y × (compares c x y ≡ true)
+Holds (compare c Change m n) run =
     (1 < length run)
     × (next : ℤ) × (here : ℤ) × (y : ℤ) × (stay : ℕ)
     × Number m (drop 1 run) next × Number m run here × Number n run y × (stay_at run 0 ≡ Some stay)

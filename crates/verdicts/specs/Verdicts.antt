@@ -1,10 +1,11 @@
 -- What a formula says of any run, open or closed: true, false or undecided. A run is told from the state that the formula is judged at on. Assumes nothing.
-use Rattle.std.specs.Prelude.{true, false, cond, List, [], ◌∷◌, drop, ℤ, pos, ◌-ℤ◌, ◌*ℤ◌, Some, None, Option}
+use Rattle.std.specs.Prelude.{cond, List, [], ◌∷◌, drop, ℤ, pos, ◌-ℤ◌, ◌*ℤ◌, Some, None, Option}
 use Rattle.std.specs.Option.{option_map}
 use Rattle.parts.specs.Formulas.{Measure, numeral, variable, unary, binary, over, Property, compare, prefixed, joined}
 use Rattle.parts.specs.declared.kinds.Comparator.{Comparator}
 use Rattle.parts.specs.declared.kinds.Connective.TheVariants.{And, Or, Implies, Iff, Until}
 use Rattle.parts.specs.declared.kinds.Prefix.TheVariants.{Not, Next, Eventually, Always}
+use Rattle.parts.specs.declared.kinds.Quantity.TheVariants.{Value, Change}
 use Rattle.runs.specs.Runs.{State, endures, value_at}
 use Rattle.runs.specs.declared.shape.Mark.{Mark}
 use Rattle.verdicts.specs.Arithmetic.{compares, of_many, of_one, of_two}
@@ -63,8 +64,8 @@ abbrev pub until_step : (List State → Verdict) → (List State → Verdict) �
 until_step p q t rest = greater (q t) (lesser (p t) rest)
 
 abbrev pub verdict : Property → Mark → List State → Verdict
-verdict (compare c false m n) mark run = compared c (value m mark run) (value n mark run)
-verdict (compare c true m n) mark run = rises c (value m mark) (value n mark) mark run
+verdict (compare c Value m n) mark run = compared c (value m mark run) (value n mark run)
+verdict (compare c Change m n) mark run = rises c (value m mark) (value n mark) mark run
 verdict (prefixed Not p) mark run = swap (verdict p mark run)
 verdict (prefixed (Next k) p) mark run = further mark (verdict p mark) (drop k run)
 verdict (prefixed (Eventually w) p) mark run = tour_of (eventually_step (verdict p mark)) False Undecided mark w run

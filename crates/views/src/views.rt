@@ -1,13 +1,10 @@
 // Late views: the run of any recorder without its first states.
 ghost use Rattle.std.specs.Prelude.{◌≡◌, ◌+◌, ◌-◌, ◌^◌, min, not, ◌&&◌, length, drop, ◌==◌};
 ghost use Rattle.std.specs.List.{slice_get};
-ghost use Rattle.runs.specs.Feeding.{after, answer, fed, feed_refusal};
 ghost use Rattle.runs.specs.Runs.{ended};
 ghost use Rattle.views.specs.Views.{view_sound, viewed};
 
-use runs::{Mark, Recorder, Refusal, Shape};
-
-const MOST_PASSED: usize = 4096;
+use runs::{Mark, Offer, Recorder, Refusal, Shape};
 
 #[derive(Drop)]
 pub struct Late<R> {
@@ -23,7 +20,7 @@ impl<R: Recorder> Late<R> {
     {
         Late {
             below,
-            passed: k.min(MOST_PASSED),
+            passed: k.min(Shape::MOST_STATES),
         }
     }
 
@@ -48,16 +45,6 @@ impl<R: Recorder> Late<R> {
     {
         self.own(self.below.count()) == 0 && !self.below.mark().ended()
     }
-}
-
-// Feeds the run below.
-fn feed_below<R: Recorder>(below: &mut R, stay: i64, values: &[i64]) -> Result<(), Refusal>
-    ensures answer { result ≡ answer (feed_refusal R.largest (R.room below.old) (R.price below.old stay values.now) (R.meaning below.old) stay values.now) }
-    ensures after { R.meaning below.new ≡ fed (feed_refusal R.largest (R.room below.old) (R.price below.old stay values.now) (R.meaning below.old) stay values.now) stay values.now (R.meaning below.old) }
-    ensures cells { R.cells below.new ≡ after (feed_refusal R.largest (R.room below.old) (R.price below.old stay values.now) (R.meaning below.old) stay values.now) (R.cells below.old) (R.written below.old stay values.now) }
-    ensures place { R.place below.new ≡ R.place below.old }
-{
-    below.feed(stay, values)
 }
 
 impl<R: Recorder> Recorder for Late<R> {
@@ -101,8 +88,8 @@ impl<R: Recorder> Recorder for Late<R> {
         self.below.free()
     }
 
-    fn need(&self, stay: i64, values: &[i64]) -> usize {
-        self.below.need(stay, values)
+    fn need(&self, offer: Offer<'_>) -> usize {
+        self.below.need(offer)
     }
 
     fn stay(&self, i: usize) -> Option<u64> {
@@ -113,8 +100,8 @@ impl<R: Recorder> Recorder for Late<R> {
         self.below.value(self.state_below(i), v)
     }
 
-    fn feed(&mut self, stay: i64, values: &[i64]) -> Result<(), Refusal> {
-        feed_below(&mut self.below, stay, values)
+    fn feed(&mut self, offer: Offer<'_>) -> Result<(), Refusal> {
+        self.below.feed(offer)
     }
 
     // Closes the run below, unless the view has no state of its own.

@@ -4,11 +4,9 @@ ghost use Rattle.std.specs.List.{slice_get};
 ghost use Rattle.criteria.specs.Formulas.{blank, is_formula};
 ghost use Rattle.criteria.specs.Told.{fresh, written};
 
+use super::super::scope::LARGEST_MAGNITUDE;
 use super::{Formula, MOST_PARTS};
-use parts::{Comparator, Part};
-
-// The largest magnitude that a formula can be read for.
-const LARGEST_MAGNITUDE: u64 = 1_000_000_000;
+use parts::{Comparator, Part, Quantity};
 
 impl Formula {
     // `0=0`, for one column and the largest magnitude.
@@ -16,7 +14,7 @@ impl Formula {
         ensures { written result ≡ fresh }
     {
         let mut parts = [Part::Numeral(0); MOST_PARTS];
-        parts[2] = Part::Compare(Comparator::Equal, false, 0);
+        parts[2] = Part::Compare(Comparator::Equal, Quantity::Value, 0);
         Formula {
             parts,
             count: 3,
@@ -56,11 +54,7 @@ impl Formula {
     pub fn part(&self, i: usize) -> Option<Part>
         ensures { result ≡ slice_get (written self.now).parts i }
     {
-        if i < self.count() {
-            Some(self.parts[i])
-        } else {
-            None
-        }
+        self.parts[..self.count].get(i).copied()
     }
 
     // The number of columns that it was read for.

@@ -1,17 +1,13 @@
 // Measures.
-ghost use Rattle.std.specs.Prelude.{◌≡◌, ◌<◌, ◌≤◌, Bool, false, OnOk};
-ghost use Rattle.parts.specs.Bounds.{bound_kept, bound_of, if_kept};
-ghost use Rattle.tokens.specs.Tokens.{is_stop};
-ghost use Rattle.grammar.specs.Meanings.{measure_of, signed};
-ghost use Rattle.grammar.specs.Reading.{first};
+ghost use Rattle.std.specs.Prelude.{◌≡◌, ◌≤◌, Bool, OnOk};
+ghost use Rattle.grammar.specs.Meanings.{signed};
 ghost use Rattle.grammar.specs.Trees.{MeasureTree};
-ghost use Rattle.criteria.specs.States.{Balanced, Follows, view};
-ghost use Rattle.criteria.specs.Ways.{arguments_way, call_way, columns_of, ending_way, measure_way, numeral_way, variable_way};
+ghost use Rattle.criteria.specs.States.{AtToken, Balanced, Does, Follows, view};
+ghost use Rattle.criteria.specs.Ways.{arguments_way, call_way, ending_way, is_inside, kept_bound, measure_way, numeral_way, variable_way};
 
 use super::super::fault::{Breach, Rule};
-use super::super::scope::Scope;
 use super::Reader;
-use super::operands::{Call, Function, Operand};
+use super::operands::{Call, Context, Function, Operand};
 use super::windows::LARGEST_NUMERAL;
 use parts::{Binary, Part, Statistic, Unary};
 use tokens::{Punctuation, Sign, Word};
@@ -28,10 +24,9 @@ fn signed(sign: Sign, magnitude: u64) -> i64
 
 impl<'t> Reader<'t> {
     // The token at hand is this numeral.
-    fn numeral(&mut self, scope: &Scope<'_>, sign: Sign, magnitude: u64) -> Result<Operand, Breach>
-        requires { is_stop (first (view self.old).spots).tok ≡ false }
-        ensures answer { Follows (numeral_way scope.now sign magnitude) (view self.old) result (view self.new) }
-        ensures balance { OnOk result (Balanced self.old self.new) }
+    fn numeral(&mut self, sign: Sign, magnitude: u64) -> Result<Operand, Breach>
+        requires { AtToken self.old }
+        ensures { Does (numeral_way self.old.scope.now sign magnitude) self.old result self.new }
     {
         if magnitude > LARGEST_NUMERAL {
             return Err(self.breach(Rule::Limit));
@@ -46,11 +41,11 @@ impl<'t> Reader<'t> {
     }
 
     // The token at hand is the variable of this name.
-    fn variable(&mut self, scope: &Scope<'_>, name: &[u8]) -> Result<Operand, Breach>
-        requires { is_stop (first (view self.old).spots).tok ≡ false }
-        ensures answer { Follows (variable_way scope.now name.now) (view self.old) result (view self.new) }
-        ensures balance { OnOk result (Balanced self.old self.new) }
+    fn variable(&mut self, name: &[u8]) -> Result<Operand, Breach>
+        requires { AtToken self.old }
+        ensures { Does (variable_way self.old.scope.now name.now) self.old result self.new }
     {
+        let scope = self.scope;
         let Some(column) = scope.header.column(name) else {
             return Err(self.breach(Rule::Column));
         };
@@ -64,36 +59,26 @@ impl<'t> Reader<'t> {
     }
 
     // The closing bracket of a measure whose name stands at a place.
-    fn ending(&mut self, scope: &Scope<'_>, place: usize, bound: Option<u64>) -> Result<u64, Breach>
-        ensures answer { (m : MeasureTree) → bound ≡ if_kept (bound_kept scope.now.magnitude (measure_of (columns_of scope.now) m)) (bound_of scope.now.magnitude (measure_of (columns_of scope.now) m)) → Follows (ending_way scope.now place m) (view self.old) result (view self.new) }
+    fn ending(&mut self, place: usize, bound: Option<u64>) -> Result<u64, Breach>
+        ensures answer { (m : MeasureTree) → bound ≡ kept_bound self.old.scope.now m → Follows (ending_way self.old.scope.now place m) (view self.old) result (view self.new) }
         ensures balance { OnOk result (Balanced self.old self.new) }
     {
         if !self.is_at(Punctuation::Close) {
             return Err(self.breach(Rule::Grammar));
         }
-        let Some(bound) = bound else {
-            return Err(Breach {
-                rule: Rule::Bound,
-                place,
-            });
-        };
+        let bound = bound.ok_or(Breach {
+            rule: Rule::Bound,
+            place,
+        })?;
         self.advance();
         Ok(bound)
     }
 
     #[cycle(arguments_call_measure_one_argument_two_arguments_window_argument)]
-    fn one_argument(
-        &mut self,
-        scope: &Scope<'_>,
-        u: Unary,
-        left: usize,
-        inside: bool,
-    ) -> Result<Call, Breach>
-        requires { 0 < left }
-        ensures answer { Follows (arguments_way scope.now (Function.Unary u) left inside) (view self.old) result (view self.new) }
-        ensures balance { OnOk result (Balanced self.old self.new) }
+    fn one_argument(&mut self, u: Unary, left: usize, context: Context) -> Result<Call, Breach>
+        ensures { Does (arguments_way self.old.scope.now (Function.Unary u) left (is_inside context)) self.old result self.new }
     {
-        let argument = self.measure(scope, left - 1, inside)?;
+        let argument = self.measure(left, context)?;
         Ok(Call {
             part: Part::Unary(u),
             bound: u.bound(argument.bound),
@@ -101,20 +86,12 @@ impl<'t> Reader<'t> {
     }
 
     #[cycle(arguments_call_measure_one_argument_two_arguments_window_argument)]
-    fn two_arguments(
-        &mut self,
-        scope: &Scope<'_>,
-        b: Binary,
-        left: usize,
-        inside: bool,
-    ) -> Result<Call, Breach>
-        requires { 0 < left }
-        ensures answer { Follows (arguments_way scope.now (Function.Binary b) left inside) (view self.old) result (view self.new) }
-        ensures balance { OnOk result (Balanced self.old self.new) }
+    fn two_arguments(&mut self, b: Binary, left: usize, context: Context) -> Result<Call, Breach>
+        ensures { Does (arguments_way self.old.scope.now (Function.Binary b) left (is_inside context)) self.old result self.new }
     {
-        let first = self.measure(scope, left - 1, inside)?;
+        let first = self.measure(left, context)?;
         self.punctuation(Punctuation::Comma)?;
-        let second = self.measure(scope, left - 1, inside)?;
+        let second = self.measure(left, context)?;
         Ok(Call {
             part: Part::Binary(b, first.at),
             bound: b.bound(first.bound, second.bound),
@@ -122,89 +99,65 @@ impl<'t> Reader<'t> {
     }
 
     #[cycle(arguments_call_measure_one_argument_two_arguments_window_argument)]
-    fn window_argument(
-        &mut self,
-        scope: &Scope<'_>,
-        s: Statistic,
-        left: usize,
-    ) -> Result<Call, Breach>
-        requires { 0 < left }
-        ensures answer { (inside : Bool) → Follows (arguments_way scope.now (Function.Statistic s) left inside) (view self.old) result (view self.new) }
+    fn window_argument(&mut self, s: Statistic, left: usize) -> Result<Call, Breach>
+        ensures answer { (inside : Bool) → Follows (arguments_way self.old.scope.now (Function.Statistic s) left inside) (view self.old) result (view self.new) }
         ensures balance { OnOk result (Balanced self.old self.new) }
     {
         let window = self.window()?;
-        let argument = self.measure(scope, left - 1, true)?;
+        let argument = self.measure(left, Context::Window)?;
         Ok(Call {
             part: Part::Over(s, window),
             bound: s.bound(argument.bound),
         })
     }
 
-    // The arguments of a function, behind their opening bracket, which took one of the nestings left.
+    // The arguments of a function, behind their opening bracket, inside which so many nestings are left.
     #[cycle(arguments_call_measure_one_argument_two_arguments_window_argument)]
     fn arguments(
         &mut self,
-        scope: &Scope<'_>,
         function: Function,
         left: usize,
-        inside: bool,
+        context: Context,
     ) -> Result<Call, Breach>
-        requires { 0 < left }
-        ensures answer { Follows (arguments_way scope.now function left inside) (view self.old) result (view self.new) }
-        ensures balance { OnOk result (Balanced self.old self.new) }
+        ensures { Does (arguments_way self.old.scope.now function left (is_inside context)) self.old result self.new }
     {
         match function {
-            Function::Unary(u) => self.one_argument(scope, u, left, inside),
-            Function::Binary(b) => self.two_arguments(scope, b, left, inside),
-            Function::Statistic(s) => self.window_argument(scope, s, left),
+            Function::Unary(u) => self.one_argument(u, left, context),
+            Function::Binary(b) => self.two_arguments(b, left, context),
+            Function::Statistic(s) => self.window_argument(s, left),
         }
     }
 
     // The token at hand is this function's name.
     #[cycle(arguments_call_measure_one_argument_two_arguments_window_argument)]
-    fn call(
-        &mut self,
-        scope: &Scope<'_>,
-        function: Function,
-        left: usize,
-        inside: bool,
-    ) -> Result<Operand, Breach>
-        requires { is_stop (first (view self.old).spots).tok ≡ false }
-        ensures answer { Follows (call_way scope.now function left inside) (view self.old) result (view self.new) }
-        ensures balance { OnOk result (Balanced self.old self.new) }
+    fn call(&mut self, function: Function, left: usize, context: Context) -> Result<Operand, Breach>
+        requires { AtToken self.old }
+        ensures { Does (call_way self.old.scope.now function left (is_inside context)) self.old result self.new }
     {
         let name = self.token.at();
         self.bring()?;
         self.advance();
         self.opening(left)?;
-        let call = self.arguments(scope, function, left, inside)?;
-        let bound = self.ending(scope, name, call.bound)?;
+        let call = self.arguments(function, left - 1, context)?;
+        let bound = self.ending(name, call.bound)?;
         let at = self.write(call.part);
         Ok(Operand { at, bound })
     }
 
-    // A measure, where so many nestings are left. Inside a window measure no other stands.
+    // A measure, where so many nestings are left. The nesting left is a parameter, since it falls at each call.
     #[cycle(arguments_call_measure_one_argument_two_arguments_window_argument)]
-    pub(super) fn measure(
-        &mut self,
-        scope: &Scope<'_>,
-        left: usize,
-        inside: bool,
-    ) -> Result<Operand, Breach>
-        ensures answer { Follows (measure_way scope.now left inside) (view self.old) result (view self.new) }
-        ensures balance { OnOk result (Balanced self.old self.new) }
+    pub(super) fn measure(&mut self, left: usize, context: Context) -> Result<Operand, Breach>
+        ensures { Does (measure_way self.old.scope.now left (is_inside context)) self.old result self.new }
     {
         match self.token.word() {
-            Word::Numeral(sign, magnitude) => self.numeral(scope, sign, magnitude),
-            Word::Variable(name) => self.variable(scope, name),
-            Word::Unary(u) => self.call(scope, Function::Unary(u), left, inside),
-            Word::Binary(b) => self.call(scope, Function::Binary(b), left, inside),
-            Word::Statistic(s) => {
-                if inside {
-                    return Err(self.breach(Rule::Grammar));
-                }
-                self.call(scope, Function::Statistic(s), left, inside)
-            }
+            Word::Numeral(sign, magnitude) => self.numeral(sign, magnitude),
+            Word::Variable(name) => self.variable(name),
+            Word::Unary(u) => self.call(Function::Unary(u), left, context),
+            Word::Binary(b) => self.call(Function::Binary(b), left, context),
+            Word::Statistic(s) => match context {
+                Context::Formula => self.call(Function::Statistic(s), left, context),
+                Context::Window => Err(self.breach(Rule::Grammar)),
+            },
             _ => Err(self.breach(Rule::Grammar)),
         }
     }

@@ -1,33 +1,26 @@
 // Formulas: comparisons, prefixes, brackets and connectives.
-ghost use Rattle.std.specs.Prelude.{◌≡◌, ◌<◌, false, OnOk};
-ghost use Rattle.tokens.specs.Tokens.{is_stop};
+ghost use Rattle.std.specs.Prelude.{◌≡◌, ◌<◌, OnOk};
 ghost use Rattle.grammar.specs.Reading.{first, sign_at, sign_level};
 ghost use Rattle.grammar.specs.Trees.{MeasureTree, PropertyTree};
-ghost use Rattle.criteria.specs.States.{Balanced, Follows, View, view};
+ghost use Rattle.criteria.specs.States.{AtToken, Balanced, Does, Follows, View, view};
 ghost use Rattle.criteria.specs.Ways.{Ends, bracketed_way, change_comparison_way, columns_of, compared_way, comparison_way, index_way, lead_way, link_way, linked_way, links_way, next_lead_way, operand_way, prefix_sign_way, prefixed_way, tier_way};
 
 use super::super::fault::{Breach, Rule};
-use super::super::scope::Scope;
-use super::{MOST_PARTS, Reader};
-use parts::{Connective, Part, Prefix};
+use super::Reader;
+use super::operands::Context;
+use parts::{Connective, Part, Prefix, Quantity};
 use tokens::{ConnectiveSign, PrefixSign, Punctuation, Sign, Word};
 
 // The largest index of X.
 const LARGEST_INDEX: u64 = 4_096;
 
-// How loosely U binds, the loosest of the connectives.
+// How loosely U binds, the loosest of the connectives. A level is a number, since a formula goes down them one by one.
 const LOOSEST: usize = 5;
 
 impl<'t> Reader<'t> {
     // A comparison from its comparator on, behind its left measure, whose part stands at an index.
-    fn compared(
-        &mut self,
-        scope: &Scope<'_>,
-        left: usize,
-        changes: bool,
-        left_at: usize,
-    ) -> Result<usize, Breach>
-        ensures answer { (m : MeasureTree) → Follows (compared_way scope.now left changes m left_at) (view self.old) result (view self.new) }
+    fn compared(&mut self, left: usize, quantity: Quantity, left_at: usize) -> Result<usize, Breach>
+        ensures answer { (m : MeasureTree) → Follows (compared_way self.old.scope.now left quantity m left_at) (view self.old) result (view self.new) }
         ensures balance { OnOk result (Balanced self.old self.new) }
     {
         let Word::Comparator(comparator) = self.token.word() else {
@@ -35,35 +28,32 @@ impl<'t> Reader<'t> {
         };
         self.bring()?;
         self.advance();
-        self.measure(scope, left, false)?;
-        Ok(self.write(Part::Compare(comparator, changes, left_at)))
+        self.measure(left, Context::Formula)?;
+        Ok(self.write(Part::Compare(comparator, quantity, left_at)))
     }
 
-    fn comparison(&mut self, scope: &Scope<'_>, left: usize) -> Result<usize, Breach>
-        ensures answer { Follows (comparison_way scope.now left) (view self.old) result (view self.new) }
-        ensures balance { OnOk result (Balanced self.old self.new) }
+    fn comparison(&mut self, left: usize) -> Result<usize, Breach>
+        ensures { Does (comparison_way self.old.scope.now left) self.old result self.new }
     {
-        let first = self.measure(scope, left, false)?;
-        self.compared(scope, left, false, first.at)
+        let first = self.measure(left, Context::Formula)?;
+        self.compared(left, Quantity::Value, first.at)
     }
 
     // The token at hand is d.
-    fn change_comparison(&mut self, scope: &Scope<'_>, left: usize) -> Result<usize, Breach>
-        requires { is_stop (first (view self.old).spots).tok ≡ false }
-        ensures answer { Follows (change_comparison_way scope.now left) (view self.old) result (view self.new) }
-        ensures balance { OnOk result (Balanced self.old self.new) }
+    fn change_comparison(&mut self, left: usize) -> Result<usize, Breach>
+        requires { AtToken self.old }
+        ensures { Does (change_comparison_way self.old.scope.now left) self.old result self.new }
     {
         self.advance();
         self.opening(left)?;
-        let first = self.measure(scope, left - 1, false)?;
+        let first = self.measure(left - 1, Context::Formula)?;
         self.punctuation(Punctuation::Close)?;
-        self.compared(scope, left, true, first.at)
+        self.compared(left, Quantity::Change, first.at)
     }
 
-    // The index of X, behind its bracket.
+    // The index of X, behind its bracket. Other signs and another limit than a window's: one function for both would say no more.
     fn index(&mut self) -> Result<u64, Breach>
-        ensures answer { Follows index_way (view self.old) result (view self.new) }
-        ensures balance { OnOk result (Balanced self.old self.new) }
+        ensures { Does index_way self.old result self.new }
     {
         let Word::Numeral(Sign::Unsigned | Sign::Plus, index) = self.token.word() else {
             return Err(self.breach(Rule::Grammar));
@@ -77,8 +67,7 @@ impl<'t> Reader<'t> {
 
     // X alone, or with an index, behind its sign.
     fn next_lead(&mut self) -> Result<Prefix, Breach>
-        ensures answer { Follows next_lead_way (view self.old) result (view self.new) }
-        ensures balance { OnOk result (Balanced self.old self.new) }
+        ensures { Does next_lead_way self.old result self.new }
     {
         if !self.is_at(Punctuation::OpenWindow) {
             return Ok(Prefix::Next(1));
@@ -91,8 +80,7 @@ impl<'t> Reader<'t> {
 
     // A prefix behind its sign.
     fn lead(&mut self, sign: PrefixSign) -> Result<Prefix, Breach>
-        ensures answer { Follows (lead_way sign) (view self.old) result (view self.new) }
-        ensures balance { OnOk result (Balanced self.old self.new) }
+        ensures { Does (lead_way sign) self.old result self.new }
     {
         match sign {
             PrefixSign::Not => Ok(Prefix::Not),
@@ -104,60 +92,56 @@ impl<'t> Reader<'t> {
 
     // The sign of a prefix, which brings a part and a nesting.
     fn prefix_sign(&mut self, left: usize) -> Result<(), Breach>
-        requires { is_stop (first (view self.old).spots).tok ≡ false }
+        requires { AtToken self.old }
         ensures answer { Follows (prefix_sign_way left) (view self.old) result (view self.new) }
         ensures count { self.new.count ≡ self.old.count }
     {
-        if left == 0 || self.brought >= MOST_PARTS {
+        if left == 0 {
             return Err(self.breach(Rule::Size));
         }
-        self.brought += 1;
+        self.bring()?;
         self.advance();
         Ok(())
     }
 
     // The token at hand is this prefix's sign.
     #[cycle(bracketed_formula_linked_links_operand_prefix_tier)]
-    fn prefix(&mut self, scope: &Scope<'_>, left: usize, sign: PrefixSign) -> Result<usize, Breach>
-        requires { is_stop (first (view self.old).spots).tok ≡ false }
-        ensures answer { Follows (prefixed_way scope.now left sign) (view self.old) result (view self.new) }
-        ensures balance { OnOk result (Balanced self.old self.new) }
+    fn prefix(&mut self, left: usize, sign: PrefixSign) -> Result<usize, Breach>
+        requires { AtToken self.old }
+        ensures { Does (prefixed_way self.old.scope.now left sign) self.old result self.new }
     {
         self.prefix_sign(left)?;
         let prefix = self.lead(sign)?;
-        self.operand(scope, left - 1)?;
+        self.operand(left - 1)?;
         Ok(self.write(Part::Prefix(prefix)))
     }
 
     #[cycle(bracketed_formula_linked_links_operand_prefix_tier)]
-    fn bracketed(&mut self, scope: &Scope<'_>, left: usize) -> Result<usize, Breach>
-        ensures answer { Follows (bracketed_way scope.now left) (view self.old) result (view self.new) }
-        ensures balance { OnOk result (Balanced self.old self.new) }
+    fn bracketed(&mut self, left: usize) -> Result<usize, Breach>
+        ensures { Does (bracketed_way self.old.scope.now left) self.old result self.new }
     {
         self.opening(left)?;
-        let at = self.formula(scope, left - 1)?;
+        let at = self.formula(left - 1)?;
         self.punctuation(Punctuation::Close)?;
         Ok(at)
     }
 
     // What a prefix can stand before.
     #[cycle(bracketed_formula_linked_links_operand_prefix_tier)]
-    fn operand(&mut self, scope: &Scope<'_>, left: usize) -> Result<usize, Breach>
-        ensures answer { Follows (operand_way scope.now left) (view self.old) result (view self.new) }
-        ensures balance { OnOk result (Balanced self.old self.new) }
+    fn operand(&mut self, left: usize) -> Result<usize, Breach>
+        ensures { Does (operand_way self.old.scope.now left) self.old result self.new }
     {
         match self.token.word() {
-            Word::Punctuation(_) => self.bracketed(scope, left),
-            Word::Prefix(sign) => self.prefix(scope, left, sign),
-            Word::Change => self.change_comparison(scope, left),
-            _ => self.comparison(scope, left),
+            Word::Punctuation(_) => self.bracketed(left),
+            Word::Prefix(sign) => self.prefix(left, sign),
+            Word::Change => self.change_comparison(left),
+            _ => self.comparison(left),
         }
     }
 
     // A connective behind its sign.
     fn link(&mut self, sign: ConnectiveSign) -> Result<Connective, Breach>
-        ensures answer { Follows (link_way sign) (view self.old) result (view self.new) }
-        ensures balance { OnOk result (Balanced self.old self.new) }
+        ensures { Does (link_way sign) self.old result self.new }
     {
         match sign {
             ConnectiveSign::And => Ok(Connective::And),
@@ -182,63 +166,54 @@ impl<'t> Reader<'t> {
     #[cycle(bracketed_formula_linked_links_operand_prefix_tier)]
     fn linked(
         &mut self,
-        scope: &Scope<'_>,
         level: usize,
         left: usize,
         sign: ConnectiveSign,
         left_at: usize,
     ) -> Result<usize, Breach>
-        requires { is_stop (first (view self.old).spots).tok ≡ false }
-        ensures answer { (p : PropertyTree) → Follows (linked_way scope.now left level p sign left_at) (view self.old) result (view self.new) }
+        requires { AtToken self.old }
+        ensures answer { (p : PropertyTree) → Follows (linked_way self.old.scope.now left level p sign left_at) (view self.old) result (view self.new) }
         ensures balance { OnOk result (Balanced self.old self.new) }
     {
         self.bring()?;
         self.advance();
         let connective = self.link(sign)?;
-        self.tier(scope, level, left)?;
+        self.tier(level, left)?;
         Ok(self.write(Part::Connective(connective, left_at)))
     }
 
     // The connectives of this level that follow what was read last, whose part stands at an index.
     #[cycle(bracketed_formula_linked_links_operand_prefix_tier)]
-    fn links(
-        &mut self,
-        scope: &Scope<'_>,
-        level: usize,
-        left: usize,
-        first_at: usize,
-    ) -> Result<usize, Breach>
+    fn links(&mut self, level: usize, left: usize, first_at: usize) -> Result<usize, Breach>
         requires { 0 < level }
-        ensures answer { (p : PropertyTree) (v : View) → Ends (columns_of scope.now) v p (view self.old) first_at → Follows (links_way scope.now left level p) v result (view self.new) }
+        ensures answer { (p : PropertyTree) (v : View) → Ends (columns_of v.scope) v p (view self.old) first_at → Follows (links_way v.scope left level p) v result (view self.new) }
         ensures balance { OnOk result (Balanced self.old self.new) }
     {
         let mut at = first_at;
         while let Some(sign) = self.sign_at(level) {
-            at = self.linked(scope, level - 1, left, sign, at)?;
+            at = self.linked(level - 1, left, sign, at)?;
         }
         Ok(at)
     }
 
     // What is bound as tightly as this level.
     #[cycle(bracketed_formula_linked_links_operand_prefix_tier)]
-    fn tier(&mut self, scope: &Scope<'_>, level: usize, left: usize) -> Result<usize, Breach>
-        ensures answer { Follows (tier_way scope.now left level) (view self.old) result (view self.new) }
-        ensures balance { OnOk result (Balanced self.old self.new) }
+    fn tier(&mut self, level: usize, left: usize) -> Result<usize, Breach>
+        ensures { Does (tier_way self.old.scope.now left level) self.old result self.new }
     {
         if level == 0 {
-            return self.operand(scope, left);
+            return self.operand(left);
         }
-        let at = self.tier(scope, level - 1, left)?;
-        self.links(scope, level, left, at)
+        let at = self.tier(level - 1, left)?;
+        self.links(level, left, at)
     }
 
     // A whole formula, where so many nestings are left.
     #[cycle(bracketed_formula_linked_links_operand_prefix_tier)]
-    pub(super) fn formula(&mut self, scope: &Scope<'_>, left: usize) -> Result<usize, Breach>
-        ensures answer { Follows (tier_way scope.now left 5) (view self.old) result (view self.new) }
-        ensures balance { OnOk result (Balanced self.old self.new) }
+    pub(super) fn formula(&mut self, left: usize) -> Result<usize, Breach>
+        ensures { Does (tier_way self.old.scope.now left 5) self.old result self.new }
     {
-        self.tier(scope, LOOSEST, left)
+        self.tier(LOOSEST, left)
     }
 }
 
@@ -250,6 +225,6 @@ fn level_of(sign: ConnectiveSign) -> usize
         ConnectiveSign::Or => 2,
         ConnectiveSign::Implies => 3,
         ConnectiveSign::Iff => 4,
-        ConnectiveSign::Until => 5,
+        ConnectiveSign::Until => LOOSEST,
     }
 }

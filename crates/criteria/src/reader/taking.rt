@@ -1,8 +1,7 @@
 // Taking tokens.
-ghost use Rattle.std.specs.Prelude.{◌≡◌, false, OnOk};
-ghost use Rattle.tokens.specs.Tokens.{is_stop};
+ghost use Rattle.std.specs.Prelude.{◌≡◌};
 ghost use Rattle.grammar.specs.Reading.{first, is_mark, rest};
-ghost use Rattle.criteria.specs.States.{Balanced, Follows, moved, view};
+ghost use Rattle.criteria.specs.States.{AtToken, Balanced, Does, moved, view};
 ghost use Rattle.criteria.specs.Ways.{opening_way, punctuation_way};
 
 use super::super::fault::{Breach, Rule};
@@ -12,7 +11,7 @@ use tokens::{Punctuation, Word};
 impl<'t> Reader<'t> {
     // The next token is at hand.
     pub(super) fn advance(&mut self)
-        requires { is_stop (first (view self.old).spots).tok ≡ false }
+        requires { AtToken self.old }
         ensures after { view self.new ≡ moved (view self.old) (view self.old).brought (rest (view self.old).spots) }
         ensures balance { Balanced self.old self.new }
     {
@@ -32,15 +31,11 @@ impl<'t> Reader<'t> {
     pub(super) fn is_at(&self, p: Punctuation) -> bool
         ensures { result ≡ is_mark p (first (view self.now).spots).tok }
     {
-        match self.token.word() {
-            Word::Punctuation(q) => p as u8 == q as u8,
-            _ => false,
-        }
+        matches!(self.token.word(), Word::Punctuation(q) if p == q)
     }
 
     pub(super) fn punctuation(&mut self, p: Punctuation) -> Result<(), Breach>
-        ensures answer { Follows (punctuation_way p) (view self.old) result (view self.new) }
-        ensures balance { OnOk result (Balanced self.old self.new) }
+        ensures { Does (punctuation_way p) self.old result self.new }
     {
         if !self.is_at(p) {
             return Err(self.breach(Rule::Grammar));
@@ -51,16 +46,11 @@ impl<'t> Reader<'t> {
 
     // An opening bracket, where so many nestings are left.
     pub(super) fn opening(&mut self, left: usize) -> Result<(), Breach>
-        ensures answer { Follows (opening_way left) (view self.old) result (view self.new) }
-        ensures balance { OnOk result (Balanced self.old self.new) }
+        ensures { Does (opening_way left) self.old result self.new }
     {
-        if !self.is_at(Punctuation::Open) {
-            return Err(self.breach(Rule::Grammar));
-        }
-        if left == 0 {
+        if left == 0 && self.is_at(Punctuation::Open) {
             return Err(self.breach(Rule::Size));
         }
-        self.advance();
-        Ok(())
+        self.punctuation(Punctuation::Open)
     }
 }

@@ -22,12 +22,13 @@ const MOST_NESTING: usize = 32;
 
 impl<'t> Reader<'t> {
     // At the first token of a text.
-    fn over(text: &'t [u8]) -> Reader<'t>
-        ensures { view result ≡ unread text.now }
+    fn over(scope: &'t Scope<'t>, text: &'t [u8]) -> Reader<'t>
+        ensures { view result ≡ unread scope.now text.now }
     {
         let mut lexer = Lexer::over(text);
         let token = lexer.next_token();
         Reader {
+            scope,
             lexer,
             token,
             parts: [Part::Numeral(0); MOST_PARTS],
@@ -39,35 +40,32 @@ impl<'t> Reader<'t> {
     fn is_ended(&self) -> bool
         ensures { result ≡ is_stop (first (view self.now).spots).tok }
     {
-        match self.token.word() {
-            Word::Stop => true,
-            _ => false,
-        }
+        matches!(self.token.word(), Word::Stop)
     }
 
     // The formula of the parts that are written.
-    fn made(&self, scope: &Scope<'_>) -> Formula
-        requires lawful { is_formula (length (names scope.now.header)) scope.now.magnitude (view self.now).parts ≡ true }
+    fn made(&self) -> Formula
+        requires lawful { is_formula (length (names self.now.scope.now.header)) self.now.scope.now.magnitude (view self.now).parts ≡ true }
         requires rest { (view self.now).behind ≡ replicate (128 - self.now.count) blank }
-        ensures { written result ≡ record { parts = (view self.now).parts; width = length (names scope.now.header); magnitude = scope.now.magnitude } }
+        ensures { written result ≡ record { parts = (view self.now).parts; width = length (names self.now.scope.now.header); magnitude = self.now.scope.now.magnitude } }
     {
         Formula::of(
             self.parts,
             self.count,
-            scope.header.width(),
-            scope.magnitude,
+            self.scope.header.width(),
+            self.scope.magnitude,
         )
     }
 }
 
 // The formula that a text writes.
-pub fn read_text(text: &[u8], scope: &Scope<'_>) -> Result<Formula, Breach>
+pub fn read_text<'t>(text: &'t [u8], scope: &'t Scope<'t>) -> Result<Formula, Breach>
     ensures { told_formula result ≡ by_outcome (names scope.now.header) scope.now.magnitude (reading (rules_of scope.now) (spots text.now)) }
 {
-    let mut reader = Reader::over(text);
-    reader.formula(scope, MOST_NESTING)?;
+    let mut reader = Reader::over(scope, text);
+    reader.formula(MOST_NESTING)?;
     if !reader.is_ended() {
         return Err(reader.breach(Rule::Grammar));
     }
-    Ok(reader.made(scope))
+    Ok(reader.made())
 }

@@ -1,7 +1,6 @@
 // Windows: two numerals between brackets.
-ghost use Rattle.std.specs.Prelude.{OnOk};
-ghost use Rattle.criteria.specs.States.{Balanced, Follows, view};
-ghost use Rattle.criteria.specs.Ways.{first_moment_way, last_moment_way, window_behind_way, window_way};
+ghost use Rattle.criteria.specs.States.{Does};
+ghost use Rattle.criteria.specs.Ways.{moment_way, window_behind_way, window_way};
 
 use super::super::fault::{Breach, Rule};
 use super::Reader;
@@ -12,9 +11,9 @@ use tokens::{Punctuation, Sign, Word};
 pub(super) const LARGEST_NUMERAL: u64 = 1_000_000_000;
 
 impl<'t> Reader<'t> {
-    fn first_moment(&mut self) -> Result<u64, Breach>
-        ensures answer { Follows first_moment_way (view self.old) result (view self.new) }
-        ensures balance { OnOk result (Balanced self.old self.new) }
+    // A numeral of a window, no less than the one before it.
+    fn moment(&mut self, least: u64) -> Result<u64, Breach>
+        ensures { Does (moment_way least) self.old result self.new }
     {
         let Word::Numeral(Sign::Unsigned, moment) = self.token.word() else {
             return Err(self.breach(Rule::Grammar));
@@ -22,21 +21,7 @@ impl<'t> Reader<'t> {
         if moment > LARGEST_NUMERAL {
             return Err(self.breach(Rule::Limit));
         }
-        self.advance();
-        Ok(moment)
-    }
-
-    fn last_moment(&mut self, first: u64) -> Result<u64, Breach>
-        ensures answer { Follows (last_moment_way first) (view self.old) result (view self.new) }
-        ensures balance { OnOk result (Balanced self.old self.new) }
-    {
-        let Word::Numeral(Sign::Unsigned, moment) = self.token.word() else {
-            return Err(self.breach(Rule::Grammar));
-        };
-        if moment > LARGEST_NUMERAL {
-            return Err(self.breach(Rule::Limit));
-        }
-        if first > moment {
+        if least > moment {
             return Err(self.breach(Rule::Order));
         }
         self.advance();
@@ -45,21 +30,19 @@ impl<'t> Reader<'t> {
 
     // A window behind its first numeral.
     fn window_behind(&mut self, first: u64) -> Result<Window, Breach>
-        ensures answer { Follows (window_behind_way first) (view self.old) result (view self.new) }
-        ensures balance { OnOk result (Balanced self.old self.new) }
+        ensures { Does (window_behind_way first) self.old result self.new }
     {
         self.punctuation(Punctuation::Comma)?;
-        let last = self.last_moment(first)?;
+        let last = self.moment(first)?;
         self.punctuation(Punctuation::CloseWindow)?;
         Ok(Window { first, last })
     }
 
     pub(super) fn window(&mut self) -> Result<Window, Breach>
-        ensures answer { Follows window_way (view self.old) result (view self.new) }
-        ensures balance { OnOk result (Balanced self.old self.new) }
+        ensures { Does window_way self.old result self.new }
     {
         self.punctuation(Punctuation::OpenWindow)?;
-        let first = self.first_moment()?;
+        let first = self.moment(0)?;
         self.window_behind(first)
     }
 }

@@ -13,7 +13,7 @@ use super::gathered::Gathered;
 use super::{Field, Fields};
 
 // The most bytes that a run file may have.
-const LARGEST_FILE: usize = 65_536;
+pub const LARGEST_FILE: usize = 65_536;
 
 // The field, in which no quote may stand.
 fn title_in<'a>(field: Field<'a>) -> Result<Field<'a>, RecordFault>

@@ -46,12 +46,10 @@ fn may_stand(before: &[&[u8]], name: &[u8]) -> bool
 fn bad_title(titles: &[&[u8]]) -> Option<usize>
     ensures { result ≡ bad_title (map (λ x. x.now) titles.now) }
 {
-    for (i, name) in titles.iter().enumerate() {
-        if !may_stand(&titles[..i], name) {
-            return Some(i);
-        }
-    }
-    None
+    titles
+        .iter()
+        .enumerate()
+        .position(|(i, name)| !may_stand(&titles[..i], name))
 }
 
 impl<'a> Header<'a> {
@@ -63,7 +61,7 @@ impl<'a> Header<'a> {
             return Err(RecordFault::Width(kept.at));
         }
         match bad_title(kept.values()) {
-            Some(i) => Err(RecordFault::Name(kept.places().get(i).copied().unwrap_or(kept.at))),
+            Some(i) => Err(RecordFault::Name(kept.place(i).unwrap_or(kept.at))),
             None => Ok(Header { kept }),
         }
     }

@@ -3,26 +3,16 @@ ghost use Rattle.std.specs.Prelude.{◌≡◌, length, map};
 ghost use Rattle.std.specs.Option.{option_map};
 ghost use Rattle.std.specs.List.{slice_get};
 ghost use Rattle.records.specs.Headers.{column_from};
-ghost use Rattle.records.specs.Told.{titles, names};
+ghost use Rattle.records.specs.Told.{names};
 
 use super::Header;
 
 impl<'a> Header<'a> {
-    // What the fields say, `stay` first.
-    pub(super) fn titles(&self) -> &[&'a [u8]]
-        ensures { map (λ x. x.now) result.now ≡ titles self.now }
-    {
-        self.kept.values()
-    }
-
     // The names of the columns, from the left.
-    fn names(&self) -> &[&'a [u8]]
+    pub fn names(&self) -> &[&'a [u8]]
         ensures { map (λ x. x.now) result.now ≡ names self.now }
     {
-        match self.titles() {
-            [] => &[],
-            [_, names @ ..] => names,
-        }
+        self.kept.rest()
     }
 
     // The number of columns.

@@ -21,6 +21,7 @@ impl Draft {
         requires { self.old.kept.count + 1 < 2 ^ 64 }
         ensures { drafted self.new ≡ with_entry (drafted self.old) entry }
     {
+        // 0 stands in for a number beyond the limit: the whole record is then refused.
         self.kept.keep(entry.value.unwrap_or(0), entry.at);
         self.beyond = first_beyond(self.beyond, entry);
     }

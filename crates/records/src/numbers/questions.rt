@@ -39,17 +39,14 @@ impl Record {
     pub fn values(&self) -> &[i64]
         ensures { result.now ≡ values_of (numbers_of self.now) }
     {
-        match self.fields.values() {
-            [] => &[],
-            [_, values @ ..] => values,
-        }
+        self.fields.rest()
     }
 
     // Where that field stands.
     pub fn place(&self, field: usize) -> Option<Position>
         ensures { result ≡ slice_get (numbers_of self.now).places field }
     {
-        self.fields.places().get(field).copied()
+        self.fields.place(field)
     }
 
     // Refuses a record that has another number of fields than the stay and `width` values.

@@ -3,8 +3,8 @@ ghost use Rattle.std.specs.Prelude.{◌≡◌, ◌≤◌, length};
 ghost use Rattle.tokens.specs.Lexing.{end_at, spot_at, start};
 ghost use Rattle.tokens.specs.Told.{spot_of};
 
-use super::super::lexeme::lexeme;
-use super::super::spans::{Kind, from, run_len};
+use super::super::lexeme::Front;
+use super::super::spans::run_len;
 use super::super::token::Token;
 use super::Lexer;
 
@@ -21,7 +21,7 @@ impl<'a> Lexer<'a> {
         ensures value { result ≡ start self.now.text.now self.now.at }
         ensures bound { result ≤ length self.now.text.now }
     {
-        self.at + run_len(from(self.text, self.at), Kind::Space)
+        self.at + run_len(&self.text[self.at..], |b| b == b' ')
     }
 
     // The next token. Behind the last one it is the end of the text, again and again.
@@ -30,15 +30,17 @@ impl<'a> Lexer<'a> {
         ensures after { self.new.at ≡ end_at self.old.text.now self.old.at }
         ensures text { self.new.text ≡ self.old.text }
     {
-        let text = self.text;
         let start = self.start();
-        if start < text.len() {
-            let found = lexeme(from(text, start), start);
-            self.at = start + found.size;
-            found.token
-        } else {
+        if start == self.text.len() {
             self.at = start;
-            Token::Stop(start)
+            return Token::Stop(start);
         }
+        let front = Front {
+            bytes: &self.text[start..],
+            at: start,
+        };
+        let found = front.lexeme();
+        self.at = start + found.size;
+        found.token
     }
 }

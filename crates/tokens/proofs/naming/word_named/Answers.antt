@@ -2,10 +2,10 @@ use Rattle.std.proofs.Common.{rules}
 use Rattle.tokens.specs.Lexing.{named}
 use Rattle.tokens.proofs.naming.word_named.Goals as goal
 
-pub returns-then-name-eq1 : goal.returns-then-name-eq1
+pub returns-in-len1 : goal.returns-in-len1
 unfolding named
-returns-then-name-eq1 c = search rules
+returns-in-len1 c = search rules
 
-pub returns-else-name-eq1 : goal.returns-else-name-eq1
+pub returns-in_default : goal.returns-in_default
 unfolding named
-returns-else-name-eq1 c = search rules
+returns-in_default c = search rules

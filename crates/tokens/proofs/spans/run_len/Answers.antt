@@ -1,20 +1,11 @@
-use Rattle.std.proofs.Common.{sym, arith}
-use Rattle.std.proofs.lemmas.List.Sums.{prefix_len-drop_yes, prefix_len-drop_no, prefix_len-drop_all}
-use Rattle.tokens.specs.Classes.{holds}
+use Rattle.std.proofs.Common.{◌∙◌, rules, tests}
+use Rattle.std.proofs.lemmas.Iterator.{YieldsList-from_slice}
+use Rattle.std.proofs.lemmas.Iterator.Consumers.{count_from_yields_List}
+use Rattle.std.proofs.lemmas.Iterator.Search.{YieldsList-from_take_while}
+use Rattle.std.proofs.lemmas.List.Folds.{length-prefix_len}
 use Rattle.tokens.proofs.spans.run_len.Goals as goal
 
-pub loop-i-preserved : goal.loop-i-preserved
-loop-i-preserved c =
-    omega (arith, c.loop-i.invariant, prefix_len-drop_yes (holds c.args.kind) c.args.bytes.now c.loop-i.i 0 c.loop-i-test.true (sym c.if-not-has.ensures))
-
-pub returns-then-not-has : goal.returns-then-not-has
-returns-then-not-has c = record {
-  value = omega (arith, c.loop-i.invariant, prefix_len-drop_no (holds c.args.kind) c.args.bytes.now c.loop-i.i 0 c.loop-i-test.true (sym c.if-not-has.ensures));
-  bound = omega arith;
-}
-
-pub returns : goal.returns
-returns c = record {
-  value = omega (arith, c.loop-i.invariant, prefix_len-drop_all (holds c.args.kind) c.args.bytes.now c.loop-i.i c.loop-i-test.false);
-  bound = omega arith;
-}
+pub returns-clause-value : goal.returns-clause-value
+returns-clause-value g c = λ holds is.
+    let s = c.args.bytes.now in
+    count_from_yields_List c.take_while.result _ c.count.ensures.ran (YieldsList-from_take_while _ holds (YieldsList-from_slice s cc) c.take_while.ensures.closure c.take_while.ensures.done (λ x b q k. search (rules, tests, is))) ∙ length-prefix_len holds s

@@ -28,7 +28,7 @@ abbrev pub decreases-tier : goal.decreases-tier
 decreases-tier l = 24 * l.left + 3 * l.level + 2
 
 abbrev pub invariant-links-loop-sign : goal.invariant-links-loop-sign
-invariant-links-loop-sign l = Balanced l.initial.self l.self × ((p : PropertyTree) (v : View) → Ends (columns_of l.scope) v p (view l.initial.self) l.initial.at → Reached l.scope l.left l.level p v l.at (view l.self))
+invariant-links-loop-sign l = Balanced l.initial.self l.self × ((p : PropertyTree) (v : View) → Ends (columns_of v.scope) v p (view l.initial.self) l.initial.at → Reached l.left l.level p v l.at (view l.self))
 
 abbrev pub decreases-links-loop-sign : goal.decreases-links-loop-sign
 decreases-links-loop-sign l = length (view l.self).spots

@@ -1,21 +1,25 @@
 use Rattle.std.proofs.Common.{sym, ◌∙◌}
+use Rattle.std.proofs.lemmas.Result.{err_from_is_err_and}
 use Rattle.criteria.specs.States.{view}
-use Rattle.criteria.proofs.Comparisons.{compared_read}
-use Rattle.criteria.proofs.Passing.{balanced_on}
-use Rattle.criteria.proofs.Writing.{balanced_again, counted}
+use Rattle.criteria.proofs.Comparisons.{begun, compared_broken, compared_read}
+use Rattle.criteria.proofs.Writing.{counted}
 use Rattle.criteria.proofs.reader.Reader.compared.Goals as goal
 
-pub returns : goal.returns
-returns c =
-    let start = c.args.self.now in
-    let brought = c.in_ok-bring.ensures in
-    let right = c.in_ok-measure.ensures in
+pub returns-in_err-measure-clause-answer : goal.returns-in_err-measure-clause-answer
+returns-in_err-measure-clause-answer c =
+    let exit = err_from_is_err_and c.from_residual-in_err-measure.result c.from_residual-in_err-measure.ensures.1 in
+    let start = view c.args.self.now in
+    let before = view c.advance.new.self in
+    let after = view c.measure.new.self in
+    rw (exit.1, exit.2) (λ m.
+    compared_broken c.args.left c.args.quantity m c.args.left_at c.in-Comparator.comparator start before after after c.in_err-measure.field-0.0
+    (begun c.args.left c.args.quantity m c.args.left_at c.in-Comparator.comparator start (view c.bring.new.self) before c.in-Comparator.ensures c.in_ok-bring.ensures.answer c.advance.ensures.after)
+    c.in_err-measure.ensures.answer)
+
+pub returns-clause-answer : goal.returns-clause-answer
+returns-clause-answer c = λ m.
+    let start = view c.args.self.now in
     let before = c.measure.new.self in
-    record {
-      answer = λ m.
-          compared_read c.args.scope.now c.args.left c.args.changes m c.args.left_at c.in-Comparator.comparator (view start) (view c.bring.new.self) (view c.advance.new.self) (view before) (view c.write.new.self) c.in_ok-measure.field-0 c.write.result
-          c.in-Comparator.ensures brought.answer c.advance.ensures.after right.answer c.write.ensures.after (c.write.ensures.answer ∙ sym (counted before));
-      balance =
-          balanced_again start c.bring.new.self before c.write.new.self _ _ brought.answer brought.count
-          (balanced_on c.bring.new.self c.advance.new.self before c.advance.ensures.balance right.balance) c.write.ensures.count c.write.ensures.after;
-    }
+    compared_read c.args.left c.args.quantity m c.args.left_at c.in-Comparator.comparator start (view c.advance.new.self) (view before) (view c.write.new.self) c.in_ok-measure.field-0 c.write.result
+    (begun c.args.left c.args.quantity m c.args.left_at c.in-Comparator.comparator start (view c.bring.new.self) (view c.advance.new.self) c.in-Comparator.ensures c.in_ok-bring.ensures.answer c.advance.ensures.after)
+    c.in_ok-measure.ensures.answer c.write.ensures.after (c.write.ensures.answer ∙ sym (counted before))

@@ -1,6 +1,6 @@
+use Rattle.std.proofs.Common.{rules}
 use Rattle.criteria.specs.States.{view}
 use Rattle.criteria.proofs.Comparisons.{comparison_read}
-use Rattle.criteria.proofs.Passing.{balanced_through}
 use Rattle.criteria.proofs.reader.Reader.comparison.Goals as goal
 
 pub returns : goal.returns
@@ -10,6 +10,6 @@ returns c =
     let after = c.compared.new.self in
     let left = c.in_ok-first.ensures in
     record {
-      answer = comparison_read c.args.scope.now c.args.left (view start) (view inner) c.in_ok-first.first c.compared.result (view after) left.answer c.compared.ensures.answer;
-      balance = balanced_through c.compared.result start inner after left.balance c.compared.ensures.balance;
+      answer = comparison_read c.args.left (view start) (view inner) c.in_ok-first.first c.compared.result (view after) left.answer c.compared.ensures.answer;
+      balance = search rules;
     }

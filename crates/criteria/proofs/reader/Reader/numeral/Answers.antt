@@ -15,7 +15,7 @@ returns c =
     let sign = c.args.sign in
     record {
       answer =
-          leaf_read c.args.scope.now _ 3 (tree.numeral sign n) (part.Numeral (to_z w64 (of_z w64 c.signed.result))) (view c.args.self.now) (view c.bring.new.self) (view c.advance.new.self) (view c.write-at.new.self) c.write-at.result n
+          leaf_read c.args.self.now.scope.now _ 3 (tree.numeral sign n) (part.Numeral (to_z w64 (of_z w64 c.signed.result))) (view c.args.self.now) (view c.bring.new.self) (view c.advance.new.self) (view c.write-at.new.self) c.write-at.result n
           (le-leb n most_numeral (omega arith)) c.in_ok-bring.ensures.answer c.advance.ensures.after c.write-at.ensures.after
           (c.write-at.ensures.answer ∙ sym (counted c.advance.new.self))
           (numeral_bound sign n)

@@ -14,5 +14,5 @@ returns c =
     let found = c.next_token-token.ensures.answer ∙ ap (λ (bs : List ℕ). spot_at bs lexer.at) kept ∙ ap (spot_at text) here in
     let moved = c.next_token-token.ensures.after ∙ ap (λ (bs : List ℕ). end_at bs lexer.at) kept ∙ ap (end_at text) here in
     let same = ap (λ r. r.now) c.next_token-token.ensures.text ∙ kept in
-    ap (λ (s : List Spot). record { brought = 0; spots = s; parts = []; behind = replicate 128 blank })
+    ap (λ (s : List Spot). record { scope = c.args.scope.now; brought = 0; spots = s; parts = []; behind = replicate 128 blank })
     (begun text c.next_token-token.result c.next_token-token.new.self found moved same)

@@ -11,7 +11,7 @@ returns c =
     let named = c.in-Some.ensures in
     record {
       answer =
-          leaf_read c.args.scope.now _ 5 (tree.variable c.args.name.now) (part.Variable c.in-Some.column) (view c.args.self.now) (view c.bring.new.self) (view c.advance.new.self) (view c.write-at.new.self) c.write-at.result c.args.scope.now.magnitude
+          leaf_read c.args.self.now.scope.now _ 5 (tree.variable c.args.name.now) (part.Variable c.in-Some.column) (view c.args.self.now) (view c.bring.new.self) (view c.advance.new.self) (view c.write-at.new.self) c.write-at.result c.args.self.now.scope.now.magnitude
           (ap (λ (o : Option ℕ). is_some o) (sym named)) c.in_ok-bring.ensures.answer c.advance.ensures.after c.write-at.ensures.after
           (c.write-at.ensures.answer ∙ sym (counted c.advance.new.self))
           refl

@@ -1,5 +1,5 @@
+use Rattle.std.proofs.Common.{rules}
 use Rattle.criteria.specs.States.{view}
-use Rattle.criteria.proofs.Passing.{balanced_on, balanced_through}
 use Rattle.criteria.proofs.Windows.{window_read}
 use Rattle.criteria.proofs.reader.Reader.window.Goals as goal
 
@@ -10,8 +10,8 @@ returns c =
     let behind = c.window_behind.ensures in
     let start = c.args.self.now in
     let inner = c.punctuation.new.self in
-    let later = c.first_moment.new.self in
+    let later = c.moment.new.self in
     record {
       answer = window_read (view start) (view inner) (view later) c.in_ok-first.first c.window_behind.result (view c.window_behind.new.self) opened.answer began.answer behind.answer;
-      balance = balanced_through c.window_behind.result start later c.window_behind.new.self (balanced_on start inner later opened.balance began.balance) behind.balance;
+      balance = search rules;
     }

@@ -1,10 +1,7 @@
 use Rattle.std.proofs.Common.{◌≡◌, ◌≤◌, true, false, length, Ok, sym, refl, ap, ◌∙◌, subst, rules}
 use Rattle.std.proofs.lemmas.Result.{err_from_is_err_and}
-use denote.Enum.Bare.{sameb}
-use Rattle.records.specs.contracts.cut.Next.{the_type}
-use Rattle.records.specs.declared.cut.Next.TheVariants.{Field}
 use Rattle.records.specs.Told.{seen_field}
-use Rattle.records.proofs.Follows.{is_field_by}
+use Rattle.records.proofs.Follows.{is_field}
 use Rattle.records.proofs.Gathering.{begin, called, text_refused, field_refused, no_more, at_last, goes_on}
 use Rattle.records.proofs.fields.Fields.gather.Goals as goal
 
@@ -32,23 +29,23 @@ returns-in_err-take g c =
 
 pub returns-then-ne : goal.returns-then-ne
 returns-then-ne g c =
-    let no_field : sameb the_type c.in-Some.field.next Field ≡ false = search rules in
+    let no_field : is_field c.in-Some.field.next ≡ false = search rules in
     let told = c.next_field.ensures in
     let old = c.loop-field.invariant.0 in
     let call = called c.loop-field.invariant.1 told.answer told.after (c.in_ok-field.was ∙ ap Ok c.in-Some.is) in
-    let all = at_last _ old (seen_field c.in-Some.field) call (c.in_ok-take.ensures _ old.items old.held) (is_field_by _ ∙ no_field) in
+    let all = at_last _ old (seen_field c.in-Some.field) call (c.in_ok-take.ensures _ old.items old.held) no_field in
     record { answer = all.answer; after = all.after; bytes = told.bytes ∙ c.loop-field.invariant.1 }
 
 pub loop-field-preserved : goal.loop-field-preserved
 loop-field-preserved g c =
-    let field : sameb the_type c.in-Some.field.next Field ≡ true = search rules in
+    let field : is_field c.in-Some.field.next ≡ true = search rules in
     let told = c.next_field.ensures in
     let old = c.loop-field.invariant.0 in
     let same = told.bytes ∙ c.loop-field.invariant.1 in
     let after = c.next_field.new.self in
     let call = called c.loop-field.invariant.1 told.answer told.after (c.in_ok-field.was ∙ ap Ok c.in-Some.is) in
     let inside : after.at.byte ≤ length c.args.self.now.bytes.now = subst (λ b. after.at.byte ≤ length b.now) same after.within in
-    ((goes_on _ old (seen_field c.in-Some.field) call (c.in_ok-take.ensures _ old.items old.held) (is_field_by _ ∙ field) inside).0, same)
+    ((goes_on _ old (seen_field c.in-Some.field) call (c.in_ok-take.ensures _ old.items old.held) field inside).0, same)
 
 pub returns : goal.returns
 returns g c =
