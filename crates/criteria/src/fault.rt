@@ -23,7 +23,7 @@ pub enum Rule {
 }
 
 impl Rule {
-    // Its number, which the language lays down.
+    // Its number, which the language lays down. A method and no From: a number says which of several.
     pub fn number(self) -> u8
         ensures { result ≡ rule_number self }
     {

@@ -74,6 +74,7 @@ impl RecordFault {
         }
     }
 
+    // A method and no From: a number says which of several.
     fn number(self) -> u8
         ensures { result ≡ number_of self }
     {

@@ -68,6 +68,7 @@ impl<T: Copy> Kept<T> {
         values.len().min(places.len())
     }
 
+    // A count below 2^64 is required and no invariant: the bytes bound it, which are the reader's.
     pub(crate) fn keep(&mut self, value: T, place: Position)
         requires { self.old.count + 1 < 2 ^ 64 }
         ensures { firsts self.new ≡ with_one (firsts self.old) value place }

@@ -2,7 +2,7 @@
 ghost use Rattle.std.specs.Prelude.{◌≡◌};
 ghost use Rattle.records.specs.Numerals.{negative, unsigned, magnitude, numeral, limited};
 
-// An optional sign and digits, any number of zeros in front. A magnitude from 2^64 on is held as 2^64 - 1.
+// An optional sign and digits, any number of zeros in front. A magnitude from 2^64 on is held as 2^64 - 1, which is beyond every limit that `within` takes.
 #[derive(Clone, Copy, PartialEq, Eq, Debug)]
 pub struct Numeral {
     // A field of its own, since no signed type of 64 bits holds every magnitude with its sign.

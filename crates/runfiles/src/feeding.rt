@@ -28,7 +28,7 @@ fn offer_of(row: &Record) -> Offer<'_>
     }
 }
 
-// The first byte of a field, the stay's being 0.
+// The first byte of a field, the stay's being 0; the record's for a field that is not kept.
 fn byte_at(row: &Record, field: usize) -> usize
     ensures { result ≡ byte_at (numbers_of row.now) field }
 {
@@ -43,7 +43,7 @@ fn first_over(largest: u64, values: &[i64]) -> Option<usize>
     values.iter().position(|v| v.unsigned_abs() > largest)
 }
 
-// The first byte of the leftmost value beyond the recorder's largest magnitude.
+// The first byte of the leftmost value beyond the recorder's largest magnitude; the record's where none is.
 fn over_place<R: Recorder>(row: &Record) -> usize
     ensures { result ≡ over_place (numbers_of row.now) (first_over R.largest (values_of (numbers_of row.now))) }
 {
@@ -88,6 +88,7 @@ fn offer<R: Recorder>(recorder: &mut R, row: &Record) -> Result<(), RunFault>
 }
 
 // Feeds the next record of a file to a run: true once it is fed, false once the file has ended. A refusal changes neither the reader nor the run.
+// A bool and no Option: nothing is handed out, and a caller asks only whether to go on.
 pub fn feed_record<R: Recorder>(fields: &mut Fields<'_>, recorder: &mut R) -> Result<bool, RunFault>
     ensures answer { result ≡ record_answer R.Recorder recorder.old (record_at fields.old.bytes.now (cursor fields.old)) }
     ensures after { R.meaning recorder.new ≡ record_meaning R.Recorder recorder.old (record_at fields.old.bytes.now (cursor fields.old)) }

@@ -15,6 +15,7 @@ pub enum Call<'a> {
 }
 
 // Carries out one call. Whatever calls follow, this one among them, the states only grow, a closed run no longer changes and the lead only falls.
+// A kind that is matched, and no closure: who keeps a list of calls copies and compares them.
 #[tactic(auto, using(crate::proofs::LastingRuns::lasting))]
 pub fn carry_out<R: Recorder>(recorder: &mut R, call: Call<'_>) -> Result<(), Refusal>
     ensures answer { result ≡ answer (call_refusal R.Recorder recorder.old call.entry) }

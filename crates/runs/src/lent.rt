@@ -6,6 +6,7 @@ use super::recorder::Recorder;
 use super::refusal::Refusal;
 use super::shape::{Mark, Shape};
 
+// Questions are passed on one by one, since an impl of a trait has each method.
 impl<'a, R: Recorder> Recorder for &'a mut R {
     const LARGEST: i64 = R::LARGEST;
 

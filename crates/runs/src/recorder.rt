@@ -55,13 +55,15 @@ pub trait Recorder {
     fn need(&self, offer: Offer<'_>) -> usize
         ensures { result ≡ price self.now (told offer.entry) };
 
+    // A state and a variable by their numbers, and no struct of both: they are what is asked.
     fn stay(&self, i: usize) -> Option<u64>
         ensures { result ≡ stay_at (meaning self.now).run.states i };
 
     fn value(&self, i: usize, v: usize) -> Option<i64>
         ensures { result ≡ value_at (meaning self.now).run.states i v };
 
-    // Takes one state more, or refuses it and changes nothing. What refuses it is `refusal_by` of specs/, which takes this trait's members, so that its own clauses can't name it.
+    // Takes one state more, or refuses it and changes nothing.
+    // What refuses it is `refusal_by` of specs/, which takes this trait's members, so that its own clauses can't name it.
     fn feed(&mut self, offer: Offer<'_>) -> Result<(), Refusal>
         ensures answer { result ≡ answer (feed_refusal largest (room self.old) (price self.old (told offer.entry)) (meaning self.old) (told offer.entry)) }
         ensures after { meaning self.new ≡ fed (feed_refusal largest (room self.old) (price self.old (told offer.entry)) (meaning self.old) (told offer.entry)) (told offer.entry) (meaning self.old) }

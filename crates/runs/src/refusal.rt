@@ -19,6 +19,7 @@ pub enum Refusal {
 }
 
 impl Refusal {
+    // A method and no From: a number says which of several.
     pub fn number(self) -> u8
         ensures { result ≡ number self }
     {

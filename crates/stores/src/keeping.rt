@@ -36,6 +36,7 @@ impl Head {
     }
 
     // Why a feed is refused, if it is, where the state needs so many cells. The states that are kept do not matter.
+    // An Option, as of `Shape::unlawful`: it is a question, and feed and close refuse by its answer.
     pub fn feed_refusal(
         self,
         largest: i64,

@@ -18,7 +18,7 @@ pub(crate) fn feed_records(
     ensures run { fed_to result (meaning_of rows.new) ≡ fed_from (length (cells_of rows.old)) fields.old.bytes.now most (cursor fields.old) (meaning_of rows.old) }
     ensures long { length (cells_of rows.new) ≡ length (cells_of rows.old) }
 {
-    // A bound and no `while`: a `while` would need a measure that the contract of `feed_record` doesn't name, and what a file means is defined down the bound.
+    // A bound and no `while`: what a file means is defined down the bound.
     for _ in 0..most {
         if !feed_record(fields, rows)? {
             return Ok(());

@@ -135,7 +135,7 @@ impl<'a> Front<'a> {
         Lexeme::single(Token::Punctuation(punctuation, self.at))
     }
 
-    // A match on the class that the table of bytes tells, and no table of functions.
+    // A match on the class that the table of bytes tells, and no table of functions: each class has a scan of its own.
     fn lexeme_by(self, class: Class) -> Lexeme<'a>
         ensures { seen result ≡ scanned (scan_by class self.entry.bytes.now) self.entry.at }
     {

@@ -30,7 +30,7 @@ const IFF: [[Verdict; 3]; 3] = [
     [Undecided, Undecided, Undecided],
 ];
 
-// One look-up in a constant table for each connective.
+// The truth tables are constant arrays: one look-up for each connective, by its name.
 impl Verdict {
     pub fn and(self, other: Verdict) -> Verdict
         ensures answer { result ≡ lesser self other }

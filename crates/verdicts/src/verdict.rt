@@ -12,10 +12,11 @@ pub enum Verdict {
     Undecided,
 }
 
-// The caller's bytes, by the C interface: 3 marks a part that is a number and has no verdict.
+// The caller's bytes, as they are laid down: 3 marks a part that is a number and has no verdict.
 const NUMBER: u8 = 3;
 
 // The byte of a part: that of its verdict, or the mark of a number.
+// A function and no From: Option and u8 are both types of the library.
 pub fn cell(part: Option<Verdict>) -> u8
     ensures answer { result ≡ byte_of part }
 {
@@ -31,6 +32,7 @@ impl From<Verdict> for u8 {
 }
 
 impl Verdict {
+    // Beside Display, whose writer can fail: this can't.
     pub fn word(self) -> &'static str
         ensures answer { result.now ≡ word_of self }
     {

@@ -47,6 +47,7 @@ impl<R: Recorder> Late<R> {
     }
 }
 
+// Questions are passed on one by one, since an impl of a trait has each method.
 impl<R: Recorder> Recorder for Late<R> {
     const LARGEST: i64 = R::LARGEST;
 

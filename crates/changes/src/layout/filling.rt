@@ -26,7 +26,7 @@ impl ChangeLayout {
         Some(i32::from(change))
     }
 
-    // How many variables these values would change.
+    // How many variables these values would change. That there are at most 16 is required here and below: the shape says it, which is the store's.
     pub(super) fn changed(&self, values: &[i64]) -> usize
         requires { length values.now ≤ 16 }
         ensures { result ≡ length (changes 0 values.now (take (length values.now) self.now.last)) }

@@ -1,5 +1,6 @@
 // How a state is found again: by walking from the waypoint before it, over at most 64 states.
-// The walks are loops: tried as folds, what the closure requires at each state and the result stayed open. They are two, since a stay is found without the value of a change.
+// The walks are loops: tried as folds, what the closure requires at each state and the result stayed open.
+// They are two, since a stay is found without the value of a change.
 ghost use Rattle.std.specs.Prelude.{◌≡◌, ◌+◌, ◌<◌, ◌≤◌, length};
 ghost use Rattle.changes.specs.Encoding.{changed_at, changed_to, changes_at, place_of, value_before};
 ghost use Rattle.changes.specs.Kept.{Kept};

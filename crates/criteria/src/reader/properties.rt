@@ -78,7 +78,7 @@ impl<'t> Reader<'t> {
         Ok(Prefix::Next(index))
     }
 
-    // A prefix behind its sign.
+    // A prefix behind its sign. Signs are kinds and no steps: each says which prefix was read.
     fn lead(&mut self, sign: PrefixSign) -> Result<Prefix, Breach>
         ensures { Does (lead_way sign) self.old result self.new }
     {
@@ -139,7 +139,7 @@ impl<'t> Reader<'t> {
         }
     }
 
-    // A connective behind its sign.
+    // A connective behind its sign, which is a kind and no step.
     fn link(&mut self, sign: ConnectiveSign) -> Result<Connective, Breach>
         ensures { Does (link_way sign) self.old result self.new }
     {

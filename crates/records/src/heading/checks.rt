@@ -61,6 +61,7 @@ impl<'a> Header<'a> {
             return Err(RecordFault::Width(kept.at));
         }
         match bad_title(kept.values()) {
+            // Each title has its place, so the record's place doesn't come.
             Some(i) => Err(RecordFault::Name(kept.place(i).unwrap_or(kept.at))),
             None => Ok(Header { kept }),
         }
