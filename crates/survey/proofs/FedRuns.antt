@@ -10,7 +10,7 @@ use Rattle.runs.specs.Runs.{Meaning}
 use Rattle.runs.specs.declared.refusal.Refusal.{Refusal}
 use Rattle.rows.specs.RowRuns.{RowStore, cells_of, free_in, meaning_of, need_in, written_in}
 use Rattle.rows.specs.Rows.{row_largest}
-use Rattle.stores.proofs.RecordedCalls.{kept_count, written_long}
+use Rattle.stores.proofs.RecordedStores.{kept_count, written_long}
 use Rattle.runfiles.specs.Offers.{answer_to, cells_after, meaning_after, offer_answer, offer_of, offered_answer, refusal_for}
 use Rattle.runfiles.specs.declared.fault.RunFault.{RunFault}
 use Rattle.survey.specs.Fed.{rows_free, answer_at, meaning_at, fed_on, fed_from}
