@@ -7,18 +7,15 @@ ghost use Rattle.changes.specs.Kept.{Kept};
 
 use super::waypoints::{Waypoint, Waypoints};
 use runs::{Offer, Shape};
-use stores::{Filled, Layout, Store};
+use stores::{Filled, Layout};
 
 // How a state is written.
 mod filling;
 // How a state is found again.
 mod reading;
 
-// A recorder that keeps what changes.
-pub type Changes<'a> = Store<'a, ChangeLayout>;
-
 #[derive(Drop)]
-pub struct ChangeLayout {
+pub(crate) struct ChangeLayout {
     // The values of the last state, of which the first ones are the variables'. There is no heap, so the array is as wide as a run can be.
     last: [i32; Shape::WIDEST],
     waypoints: Waypoints,

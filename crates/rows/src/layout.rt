@@ -4,14 +4,11 @@ ghost use Rattle.std.proofs.Props.{props};
 ghost use Rattle.rows.specs.Rows.{row_coding, row_largest};
 
 use runs::Offer;
-use stores::{Filled, Layout, Store, fill};
-
-// A recorder that keeps each state in a row.
-pub type Rows<'a> = Store<'a, RowLayout>;
+use stores::{Filled, Layout, fill};
 
 // Rows keep nothing beside the cells.
 #[derive(Clone, Copy)]
-pub struct RowLayout;
+pub(crate) struct RowLayout;
 
 impl Layout for RowLayout {
     const LARGEST: i64 = 1_000_000_000;

@@ -3,5 +3,7 @@
 
 // How states lie in rows.
 mod layout;
+// The recorder.
+mod rows;
 
-pub use layout::{RowLayout, Rows};
+pub use rows::Rows;
