@@ -1,11 +1,22 @@
 -- The cells of one state more tell that state, and the states before it as they were. Assumes nothing.
 use Rattle.std.proofs.Common.{◌≡◌, ℕ, suc, ◌+◌, ◌<◌, ◌≤◌, List, [], ◌∷◌, ◌++◌, length, get_or, drop, ℤ, pos, nat_abs, sym, refl, ap, ◌∙◌, zero-add, arith}
 use Rattle.std.proofs.lemmas.List.FromFn.{fill_by_all, get_or-map-range_with_len, length-map-range_with_len, map-range_with_len_more}
-use Rattle.std.proofs.lemmas.List.{drop_at, drop-drop, get_or-append-add, get_or_at, length-append, take_all}
+use Rattle.std.proofs.lemmas.List.{append_assoc, append-nil, drop_at, drop-drop, get_or-append-add, get_or_at, length-append, take_all}
 use Rattle.runs.specs.Feeding.{state_of}
+use Rattle.runs.specs.Runs.{State}
+use Rattle.changes.specs.Coding.{cells_from}
 use Rattle.changes.specs.Encoding.{changed_at, changes, changes_at, encoded, place_of, state_at, states_told, value_before, values_before}
 use Rattle.changes.proofs.PackedChanges.{changed_new}
 use Rattle.changes.proofs.Places.{place_kept, states_kept, value_kept}
+
+-- if state n begins where these cells end, the next one begins where those of one state more end, whatever its changes are
+pub place_step : (kept : List ℤ) (n : ℕ) (stay : ℤ) (cs : List ℤ) → place_of kept n ≡ length kept → place_of (kept ++ (stay ∷ pos (length cs) ∷ cs)) (suc n) ≡ length (kept ++ (stay ∷ pos (length cs) ∷ cs))
+place_step kept n stay cs whole = grind (arith, place_kept, get_or-append-add, length-append)
+
+-- the same with the cells of some states more
+pub place_from : (kept : List ℤ) (n : ℕ) (olds : List ℤ) (ss : List State) → place_of kept n ≡ length kept → place_of (kept ++ cells_from olds ss) (n + length ss) ≡ length (kept ++ cells_from olds ss)
+place_from kept n olds [] whole = grind (arith, append-nil)
+place_from kept n olds (s ∷ ss) whole = grind (arith, append_assoc, place_step, place_from (kept ++ encoded (pos s.stay) s.values olds) (suc n) s.values ss)
 
 abbrev pub grown : ℕ → ℕ → List ℤ → ℤ → List ℤ → List ℤ
 grown width n kept stay news = kept ++ encoded stay news (values_before width kept n)

@@ -1,10 +1,9 @@
 -- A variable and its value are read back from their cell, and the new values from the changes. Assumes nothing.
-use Rattle.std.proofs.Common.{◌≡◌, ℕ, zero, suc, ◌+◌, ◌-◌, ◌*◌, ◌<◌, ◌≤◌, true, cond, List, [], ◌∷◌, ◌++◌, length, get_or, take, ℤ, not, pos, negsuc, is_some, Some, None, Option, sym, refl, ap, ◌∙◌, ⊎_elim, add-zero, zero-add, add-one, arith}
-use Rattle.std.specs.List.{filter, zip}
+use Rattle.std.proofs.Common.{◌≡◌, ℕ, zero, suc, ◌+◌, ◌-◌, ◌*◌, ◌<◌, ◌≤◌, true, cond, List, [], ◌∷◌, ◌++◌, length, get_or, take, ℤ, pos, negsuc, is_some, Some, None, Option, sym, refl, ap, ◌∙◌, add-zero, zero-add, add-one, arith}
 use Rattle.std.specs.Option.{option_to_list}
 use Rattle.std.proofs.lemmas.List.{append_assoc, append-nil, get_or-take, length-append, length_push, length-take}
 use Rattle.std.proofs.lemmas.Int.{ints}
-use Rattle.std.proofs.lemmas.Bool.{cases_Bool, cond_both, eq-eqb, eqb-true, ne_eqb}
+use Rattle.std.proofs.lemmas.Bool.{cond_both, eq-eqb, eqb-true, ne_eqb}
 use Rattle.changes.specs.Encoding.{change_of, changed_to, changes, packed, same, value_of, variable_of}
 
 -- below 0 the cell lies under the next multiple of 16
@@ -93,13 +92,3 @@ module _ (v width : ℕ) (news last : List ℤ) (there : v < length news) (named
 
   pub change_fits : (c : ℤ) → Some c ≡ change_of v (get_or news v (pos 0)) (get_or last v (pos 0)) → length (changes 0 (take v news) (take width last)) < length (changes 0 news (take width last))
   change_fits c e = omega (arith, changes_upto 0 (v + 1) news (take width last), ap length (told_some c e) ∙ length_push (changes 0 (take v news) (take width last)) c)
-
--- the changed values are those that differ from the old ones
-pub changes_filtered : (u : ℕ) (news olds : List ℤ) → length (filter (λ p. not (same p.0 p.1)) (zip news olds)) ≡ length (changes u news (take (length news) olds))
-changes_filtered u [] olds = refl
-changes_filtered u (new ∷ news) [] = refl
-changes_filtered u (new ∷ news) (old ∷ olds) =
-    ⊎_elim
-    (λ (e : same new old ≡ true). rw e (changes_filtered (suc u) news olds))
-    (λ e. rw e (ap suc (changes_filtered (suc u) news olds)))
-    (cases_Bool (same new old))

@@ -1,3 +1,4 @@
+pub mod ChangeRuns
 pub mod Coding
 pub mod Encoding
 pub mod Kept

@@ -7,15 +7,12 @@ ghost use Rattle.changes.specs.Kept.{Kept};
 
 use super::waypoints::{Waypoint, Waypoints};
 use runs::{Offer, Shape};
-use stores::{Filled, Layout, Store};
+use stores::{Filled, Layout};
 
 // How a state is written.
 mod filling;
 // How a state is found again.
 mod reading;
-
-// A recorder that keeps what changes.
-pub type Changes<'a> = Store<'a, ChangeLayout>;
 
 #[derive(Drop)]
 pub struct ChangeLayout {

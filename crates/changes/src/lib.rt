@@ -7,8 +7,11 @@ mod change;
 mod waypoints;
 // How states lie in cells of changes.
 mod layout;
+// The recorder.
+mod changes;
 // A worked value.
 mod worked;
 
-pub use layout::{ChangeLayout, Changes};
+pub use changes::Changes;
+pub use layout::ChangeLayout;
 pub use worked::first_cells;

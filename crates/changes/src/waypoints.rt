@@ -1,5 +1,5 @@
 // Places from which to walk to a state: where every 64th state begins, and the values before it.
-ghost use Rattle.std.specs.Prelude.{◌≡◌, ℕ, ◌*◌, ◌/◌, ◌<◌, if◌then◌else◌, nat_eq};
+ghost use Rattle.std.specs.Prelude.{◌≡◌, ℕ, ◌*◌, ◌/◌, ◌<◌, if◌then◌else◌, nat_eq, pos, slice_index_or};
 ghost use Rattle.changes.specs.Kept.{waypoint_at};
 
 use runs::Shape;
@@ -36,11 +36,20 @@ impl Waypoints {
         }
     }
 
-    // The waypoint from which to walk to a state.
-    pub(crate) fn preceding(&self, state: usize) -> Waypoint
+    // The waypoint from which to walk to a state: the cell where it stands, and a variable's value before that.
+    // Two questions, and no answer of both: a waypoint would be copied at each.
+    pub(crate) fn place_before(&self, state: usize) -> usize
         requires { state < 4096 }
-        ensures { result ≡ waypoint_at self.now.0 (state / 64) }
+        ensures { result ≡ (waypoint_at self.now.0 (state / 64)).place }
     {
-        self.0[state / STRIDE]
+        self.0[state / STRIDE].place
+    }
+
+    pub(crate) fn value_before(&self, state: usize, v: usize) -> i32
+        requires state { state < 4096 }
+        requires variable { v < 16 }
+        ensures { result ≡ slice_index_or (waypoint_at self.now.0 (state / 64)).values v (pos 0) }
+    {
+        self.0[state / STRIDE].values[v]
     }
 }

@@ -66,6 +66,12 @@ fn the_last_variable_is_told_to_its_largest_magnitude(rt: HostRuntime) -> Result
 }
 
 #[test]
+fn the_largest_magnitude_is_a_constant_and_an_answer(rt: HostRuntime) {
+    assert_eq!(rt; Changes::LARGEST, 100_000_000);
+    assert_eq!(rt; Changes::largest_magnitude(), Changes::LARGEST);
+}
+
+#[test]
 fn calls_are_recorded_in_the_callers_cells(rt: HostRuntime) {
     let calls = [
         Call::Close,

@@ -1,7 +1,7 @@
 -- Which token a test of a reader has found.
 use Rattle.std.proofs.Common.{◌≡◌, ℕ, true, Some, Option, arith}
 use Rattle.parts.specs.declared.kinds.Comparator.{Comparator}
-use Rattle.tokens.specs.Tokens.{Tok, mark, comparator, connective, numeral}
+use Rattle.tokens.specs.Tokens.{Tok, is_stop, mark, comparator, connective, numeral, stop}
 use Rattle.tokens.specs.declared.words.ConnectiveSign.{ConnectiveSign}
 use Rattle.tokens.specs.declared.words.Punctuation.{Punctuation}
 use Rattle.tokens.specs.declared.words.Sign.{Sign}
@@ -12,6 +12,10 @@ use Rattle.grammar.specs.Trees.{skipping}
 
 pub mark_is : (p : Punctuation) (t : Tok) → is_mark p t ≡ true → t ≡ mark p
 mark_is p t e = grind arith
+
+-- no other token is taken for the end of a text
+pub stop_is : (t : Tok) → is_stop t ≡ true → t ≡ stop
+stop_is t e = grind arith
 
 pub signed_numeral_is : (t : Tok) (k : Sign × ℕ) → signed_numeral t ≡ Some k → t ≡ numeral k.0 k.1
 signed_numeral_is t k e = grind arith

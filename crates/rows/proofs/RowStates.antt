@@ -1,10 +1,12 @@
 -- Which state stands in which row, and that one row more is one state more. Assumes nothing.
-use Rattle.std.proofs.Common.{◌≡◌, ℕ, zero, suc, ◌+◌, ◌*◌, ◌<◌, ◌≤◌, List, [], ◌∷◌, ◌++◌, length, get_or, take, drop, ℤ, pos, nat_abs, Some, ap, ◌∙◌, mul-le-mul_right, suc-mul, add_comm, zero-mul, add-one, arith}
+use Rattle.std.proofs.Common.{◌≡◌, ℕ, zero, suc, ◌+◌, ◌*◌, ◌<◌, ◌≤◌, true, List, [], ◌∷◌, ◌++◌, length, get_or, take, drop, ℤ, pos, nat_abs, Some, None, ap, ◌∙◌, mul-le-mul_right, suc-mul, add_comm, zero-mul, add-one, arith}
 use Rattle.std.specs.List.{slice_get}
-use Rattle.std.proofs.lemmas.List.{drop-append-le, drop-drop, drop_more, get_or-drop, get_or-take, length-drop, length-take, nil_from_length, take_all, take-append-le}
-use Rattle.std.proofs.lemmas.Option.{slice_get-get_or}
-use Rattle.runs.specs.Runs.{stay_at, value_at}
-use Rattle.rows.specs.Rows.{row_state, row_states}
+use Rattle.std.proofs.lemmas.List.{drop-append-le, drop-drop, drop_more, get_or-drop, get_or-take, length-append, length-drop, length-take, nil_from_length, take_all, take-append-le}
+use Rattle.std.proofs.lemmas.Option.{slice_get-get_or, slice_get_past}
+use Rattle.runs.specs.Runs.{State, stay_at, value_at}
+use Rattle.runs.specs.declared.shape.Shape.{Shape}
+use Rattle.stores.specs.Cells.{are_lawful}
+use Rattle.rows.specs.Rows.{row_state, row_states, rows_of}
 
 nth_row_states : (width n : ℕ) (cells : List ℤ) (i : ℕ) → i < n → slice_get (row_states width n cells) i ≡ Some (row_state (take (width + 1) (drop (i * (width + 1)) cells)))
 nth_row_states width zero cells i h = absurd (omega arith)
@@ -31,6 +33,15 @@ module _ (width n : ℕ) (cells : List ℤ) (rows : length cells ≡ n * (width 
       let at = i * (width + 1) in
       let inside : v < length (take width (drop (at + 1) cells)) = simp (length-take, length-drop) (omega (arith, row_fits i there)) in
       rw (nth_row i there) (slice_get-get_or _ v (pos 0) inside ∙ ap Some (rw (get_or-take, get_or-drop)))
+
+-- beyond the width a state has no value, whatever the cells tell
+pub value_past : (width n : ℕ) (cells : List ℤ) (i v : ℕ) → i < n → width ≤ v → value_at (row_states width n cells) i v ≡ None
+value_past width n cells i v there past = grind (arith, nth_row_states, slice_get_past, length-take)
+
+-- each lawful state fills one row of cells
+pub length_rows_of : (shape : Shape) (largest : ℕ) (ss : List State) → are_lawful shape largest ss ≡ true → length (rows_of ss) ≡ length ss * (shape.width + 1)
+length_rows_of shape largest [] e = omega arith
+length_rows_of shape largest (s ∷ ss) e = grind (arith, length-append, length_rows_of shape largest ss)
 
 -- one row more is one state more
 row_states_suc : (width n : ℕ) (cells row : List ℤ) → length cells ≡ n * (width + 1) → length row ≡ width + 1 → row_states width (suc n) (cells ++ row) ≡ row_states width n cells ++ (row_state row ∷ [])

@@ -1,9 +1,35 @@
--- Rows as a recorder: its meaning, its cells, and what a feed does to them. Assumes nothing.
-use Rattle.stores.specs.declared.store.Store.{Store}
-use Rattle.rows.specs.contracts.layout.RowLayoutLayout.TheImpl.{ghosts}
-use Rattle.rows.specs.declared.layout.RowLayout.{RowLayout}
-pub use Rattle.stores.specs.Stores.{cells_of, free_in, meaning_of, need_in, refusal_by, written_in}
+-- Rows as a recorder, in the words of its store: its meaning, its cells, and what a feed does to them. Assumes nothing.
+use Rattle.std.specs.Prelude.{ℕ, List, ℤ, Option}
+use Rattle.runs.specs.Offers.{Offered}
+use Rattle.runs.specs.Runs.{Meaning}
+use Rattle.runs.specs.declared.refusal.Refusal.{Refusal}
+use Rattle.stores.specs.Stores as stores
+use Rattle.rows.specs.declared.rows.Rows.{Rows}
 
--- the recorder that the code calls `Rows`
-abbrev pub RowStore : Type 0
-RowStore = Store RowLayout ghosts
+-- the cells that are lent to it, filled or not
+abbrev pub cells_of : Rows → List ℤ
+cells_of r = stores.cells_of r.store
+
+-- the run that it records
+abbrev pub meaning_of : Rows → Meaning
+meaning_of r = stores.meaning_of r.store
+
+-- how many of its cells are free
+abbrev pub free_in : Rows → ℕ
+free_in r = stores.free_in r.store
+
+-- how many cells a state needs in it
+abbrev pub need_in : Rows → Offered → ℕ
+need_in r = stores.need_in r.store
+
+-- why it refuses a state, if it does
+abbrev pub refusal_by : Rows → Offered → Option Refusal
+refusal_by r = stores.refusal_by r.store
+
+-- its cells once a state is written behind the others
+abbrev pub written_in : Rows → Offered → List ℤ
+written_in r = stores.written_in r.store
+
+-- the free cells once a state is kept: they fall by what it needs
+abbrev pub left_in : Rows → Offered → ℕ
+left_in r = stores.left_in r.store

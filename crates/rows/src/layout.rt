@@ -4,10 +4,7 @@ ghost use Rattle.std.proofs.Props.{props};
 ghost use Rattle.rows.specs.Rows.{row_coding, row_largest};
 
 use runs::Offer;
-use stores::{Filled, Layout, Store, fill};
-
-// A recorder that keeps each state in a row.
-pub type Rows<'a> = Store<'a, RowLayout>;
+use stores::{Filled, Layout, fill};
 
 // Rows keep nothing beside the cells.
 #[derive(Clone, Copy)]

@@ -3,5 +3,8 @@
 
 // How states lie in rows.
 mod layout;
+// The recorder.
+mod rows;
 
-pub use layout::{RowLayout, Rows};
+pub use layout::RowLayout;
+pub use rows::Rows;

@@ -3,3 +3,4 @@ pub mod LawfulStates
 pub mod PastedCells
 pub mod WrittenState
 pub mod RecordedCalls
+pub mod RecordedStores

@@ -1,94 +1,82 @@
--- A store whose cells hold exactly its states holds them so whatever calls are carried out. Assumes nothing.
-use Rattle.std.proofs.Common.{◌≡◌, ℕ, ◌+◌, ◌-◌, ◌<◌, ◌≤◌, cond, leb, List, ◌∷◌, ◌++◌, length, get_or, drop, ℤ, Some, None, Option, sym, refl, ap, ◌∙◌, arith}
-use lib.Seq.{paste}
-use Rattle.std.proofs.lemmas.Bool.Decides.{nat_tests}
-use Rattle.std.proofs.lemmas.List.{at_drop_more, length-take-le}
+-- A recorder of any kind whose cells hold exactly its states holds them so whatever calls are carried out. Assumes nothing.
+use Rattle.std.proofs.Common.{◌≡◌, ℕ, ◌+◌, ◌<◌, List, ◌∷◌, length, get_or, drop, ℤ, Some, None, Option, sym, refl, ap, ◌∙◌}
+use Rattle.std.proofs.lemmas.List.{at_drop_more}
 use Rattle.runs.specs.Calls.{step_of, step_written, stepped}
-use Rattle.runs.specs.Feeding.{after, close_refusal, fed, state_of, with_state}
+use Rattle.runs.specs.Feeding.{after, close_refusal, fed, feed_refusal, state_of, with_state}
 use Rattle.runs.specs.Offers.{Offered, told}
-use Rattle.runs.specs.Runs.{Meaning}
+use Rattle.runs.specs.Runs.{Meaning, State}
 use Rattle.runs.specs.declared.calls.Call.{Call}
 use Rattle.runs.specs.declared.calls.Call.TheVariants as call
 use Rattle.runs.specs.declared.refusal.Refusal.{Refusal}
 use Rattle.runs.specs.declared.shape.Mark.TheVariants.{Closed}
-use Rattle.runs.proofs.TakenStates.{taken_lawful, taken_room}
-use Rattle.stores.specs.Coding.{Coding}
-use Rattle.stores.specs.Filled.{filled_by, over}
-use Rattle.stores.specs.Recorded.{cells_in, free_beside, store_led}
-use Rattle.stores.specs.Stores.{cells_of, free_in, meaning_of, need_in, refusal_by, states_of, written_in}
-use Rattle.stores.specs.declared.layout.Layout.{Ghosts}
-use Rattle.stores.specs.declared.store.Store.{Store}
-use Rattle.stores.proofs.PastedCells.{over_more}
-use Rattle.stores.proofs.WrittenState.{as_many}
+use Rattle.runs.specs.declared.shape.Shape.{Shape}
+use Rattle.stores.specs.Filled.{over}
+use Rattle.stores.specs.Recorded.{free_beside, led_in}
 
 -- the cells hold the states, over those that were there first
-pub record Holds (k : Coding) (first : List ℤ) (m : Meaning) (cells : List ℤ) : Type 0 where
-  pub held : cells ≡ over (cells_in k m) first
+pub record Holds (filled : Shape → List State → List ℤ) (first : List ℤ) (m : Meaning) (cells : List ℤ) : Type 0 where
+  pub held : cells ≡ over (filled m.run.shape m.run.states) first
   pub long : length cells ≡ length first
 
-module _ {L : Type 0} {g : Ghosts L} (r : Store L g) where
-  pub kept_count : length (states_of r) ≡ r.head.count
-  kept_count = g.coding.counted r.head.shape r.head.count (filled_by r.head (cells_of r))
+-- a kind of recorder with cells of its own, and how it takes a state
+pub record Kind (X : Type 0) : Type 0 where
+  -- the largest magnitude of a value, the cells that states fill, and how many one state more needs
+  pub largest : ℕ
+  pub filled : Shape → List State → List ℤ
+  pub need : Meaning → Offered → ℕ
+  -- what a recorder means, its cells, the free ones, the need of a state in it, and its cells once a state is written
+  pub meaning : X → Meaning
+  pub cells : X → List ℤ
+  pub room : X → ℕ
+  pub price : X → Offered → ℕ
+  pub written : X → Offered → List ℤ
+  -- it passes over no state
+  pub leads : (x : X) → (meaning x).lead ≡ 0
+  -- what it means tells its free cells and the need of a state
+  pub free_is : (first : List ℤ) (x : X) → Holds filled first (meaning x) (cells x) → room x ≡ free_beside (length (cells x)) (meaning x).run.states (filled (meaning x).run.shape (meaning x).run.states)
+  pub need_is : (x : X) → price x ≡ need (meaning x)
+  -- once a state is taken, the cells hold it behind the others
+  pub taken : (first : List ℤ) (x : X) (o : Offered) → Holds filled first (meaning x) (cells x) → feed_refusal largest (room x) (price x o) (meaning x) o ≡ None → Holds filled first (with_state (state_of o) 0 (meaning x).run) (written x o)
 
-  used_is : r.head.used ≡ length (cells_in g.coding (meaning_of r))
-  used_is = sym (length-take-le r.head.used (cells_of r) r.within) ∙ ap length r.exact
+module _ {X : Type 0} (k : Kind X) (first : List ℤ) (x : X) where
+  -- its meaning and its cells after a call
+  abbrev meaning_after : Call → Meaning
+  meaning_after c = stepped k.largest (step_of (k.room x) (k.price x) c) (k.meaning x)
 
-  free_is : free_in r ≡ free_beside (length (cells_of r)) (states_of r) (cells_in g.coding (meaning_of r))
-  free_is = ap (λ n. cond (leb 4096 n) 0 (length (cells_of r) - r.head.used)) (sym kept_count) ∙ ap (λ n. cond (leb 4096 (length (states_of r))) 0 (length (cells_of r) - n)) used_is
+  abbrev cells_after : Call → List ℤ
+  cells_after c = step_written k.largest (step_of (k.room x) (k.price x) c) (k.meaning x) (k.cells x) (k.written x)
 
-  -- a state that is taken fills cells that are there
-  module _ (o : Offered) (taken : refusal_by r o ≡ None) where
-    fits : r.head.used + g.coding.needs r.head.shape (states_of r) o ≤ length (cells_of r)
-    fits =
-        let lawful = taken_lawful g.coding.largest (free_in r) (need_in r o) (meaning_of r) o taken in
-        let room = taken_room g.coding.largest (free_in r) (need_in r o) (meaning_of r) o taken in
-        let need : need_in r o ≡ g.coding.needs r.head.shape (states_of r) o = rw lawful in
-        grind (arith, nat_tests, r.within)
+  -- what a list of calls leads to in as many cells
+  abbrev calls_lead : List Call → Meaning → Meaning
+  calls_lead = led_in k.largest k.filled k.need (length first)
 
-    pub written_long : length (written_in r o) ≡ length (cells_of r)
-    written_long =
-        let lawful = taken_lawful g.coding.largest (free_in r) (need_in r o) (meaning_of r) o taken in
-        as_many {k = g.coding} {h = r.head} {o = o} (record { lawful = lawful; needs = refl; within = r.within; room = fits })
-
-    taken_held : (first : List ℤ) → Holds g.coding first (meaning_of r) (cells_of r) → Holds g.coding first (with_state (state_of o) 0 (meaning_of r).run) (written_in r o)
-    taken_held first before =
-        let lawful = taken_lawful g.coding.largest (free_in r) (need_in r o) (meaning_of r) o taken in
-        let filled = cells_in g.coding (meaning_of r) in
-        let added = g.coding.added r.head.shape (states_of r) o in
-        let need = g.coding.needs r.head.shape (states_of r) o in
-        let long = sym (g.coding.fits r.head.shape (states_of r) o lawful) in
-        let more : filled ++ added ≡ cells_in g.coding (with_state (state_of o) 0 (meaning_of r).run) = sym (g.coding.more r.head.shape (states_of r) o lawful) in
-        record {
-          held = ap (λ cs. paste cs r.head.used added need) before.held ∙ over_more filled added first r.head.used need used_is long ∙ ap (λ cs. over cs first) more;
-          long = written_long ∙ before.long;
-        }
-
-  module _ (first : List ℤ) (before : Holds g.coding first (meaning_of r) (cells_of r)) where
-    fed_held : (o : Offered) (refused : Option Refusal) → refusal_by r o ≡ refused → Holds g.coding first (fed refused o (meaning_of r)) (after refused (cells_of r) (written_in r o))
+  module _ (before : Holds k.filled first (k.meaning x) (k.cells x)) where
+    fed_held : (o : Offered) (refused : Option Refusal) → feed_refusal k.largest (k.room x) (k.price x o) (k.meaning x) o ≡ refused → Holds k.filled first (fed refused o (k.meaning x)) (after refused (k.cells x) (k.written x o))
     fed_held o (Some why) e = before
-    fed_held o None e = taken_held o e first before
+    fed_held o None e = rw (k.leads x) (k.taken first x o before e)
 
-    closed_held : (o : Option Refusal) → Holds g.coding first (after o (meaning_of r) (record { run = record { shape = r.head.shape; states = states_of r; mark = Closed }; lead = 0 })) (cells_of r)
+    closed_held : (refused : Option Refusal) → Holds k.filled first (after refused (k.meaning x) (record { run = record { shape = (k.meaning x).run.shape; states = (k.meaning x).run.states; mark = Closed }; lead = (k.meaning x).lead })) (k.cells x)
     closed_held (Some why) = before
     closed_held None = record { held = before.held; long = before.long }
 
-    step_held : (c : Call) → Holds g.coding first (stepped g.coding.largest (step_of (free_in r) (need_in r) c) (meaning_of r)) (step_written g.coding.largest (step_of (free_in r) (need_in r) c) (meaning_of r) (cells_of r) (written_in r))
+    step_held : (c : Call) → Holds k.filled first (meaning_after c) (cells_after c)
     step_held (call.Feed offer) = fed_held (told offer) _ refl
-    step_held call.Close = closed_held (close_refusal (meaning_of r))
+    step_held call.Close = closed_held (close_refusal (k.meaning x))
 
     -- a call is carried out, after which the meaning is n
-    module _ (n : Meaning) (c : Call) (means : n ≡ stepped g.coding.largest (step_of (free_in r) (need_in r) c) (meaning_of r)) where
-      pub call_held : (cells : List ℤ) → cells ≡ step_written g.coding.largest (step_of (free_in r) (need_in r) c) (meaning_of r) (cells_of r) (written_in r) → Holds g.coding first n cells
+    module _ (n : Meaning) (c : Call) (means : n ≡ meaning_after c) where
+      pub call_held : (cells : List ℤ) → cells ≡ cells_after c → Holds k.filled first n cells
       call_held cells holds =
           let s = step_held c in
-          record { held = holds ∙ s.held ∙ ap (λ m. over (cells_in g.coding m) first) (sym means); long = ap length holds ∙ s.long }
+          record { held = holds ∙ s.held ∙ ap (λ m. over (k.filled m.run.shape m.run.states) first) (sym means); long = ap length holds ∙ s.long }
 
-      call_led : (cs : List Call) → store_led g.coding (length first) (c ∷ cs) (meaning_of r) ≡ store_led g.coding (length first) cs n
+      call_led : (cs : List Call) → calls_lead (c ∷ cs) (k.meaning x) ≡ calls_lead cs n
       call_led cs =
-          let free : free_in r ≡ free_beside (length first) (states_of r) (cells_in g.coding (meaning_of r)) = free_is ∙ ap (λ j. free_beside j (states_of r) (cells_in g.coding (meaning_of r))) before.long in
-          ap (store_led g.coding (length first) cs) (ap (λ j. stepped g.coding.largest (step_of j (need_in r) c) (meaning_of r)) (sym free) ∙ sym means)
+          let m = k.meaning x in
+          let filled = k.filled m.run.shape m.run.states in
+          let free : k.room x ≡ free_beside (length first) m.run.states filled = k.free_is first x before ∙ ap (λ j. free_beside j m.run.states filled) before.long in
+          ap (calls_lead cs) (ap (λ j. stepped k.largest (step_of j (k.need m) c) m) (sym free) ∙ ap (λ p. stepped k.largest (step_of (k.room x) p c) m) (sym (k.need_is x)) ∙ sym means)
 
     -- the same for a call in the midst of a list
-    pub calls_led : (n : Meaning) (calls : List Call) (i : ℕ) (d : Call) → i < length calls → n ≡ stepped g.coding.largest (step_of (free_in r) (need_in r) (get_or calls i d)) (meaning_of r) → store_led g.coding (length first) (drop i calls) (meaning_of r) ≡ store_led g.coding (length first) (drop (i + 1) calls) n
-    calls_led n calls i d there means =
-        at_drop_more (λ cs. store_led g.coding (length first) cs (meaning_of r)) calls i d there ∙ call_led n (get_or calls i d) means (drop (i + 1) calls)
+    pub calls_led : (n : Meaning) (calls : List Call) (i : ℕ) (d : Call) → i < length calls → n ≡ meaning_after (get_or calls i d) → calls_lead (drop i calls) (k.meaning x) ≡ calls_lead (drop (i + 1) calls) n
+    calls_led n calls i d there means = at_drop_more (λ cs. calls_lead cs (k.meaning x)) calls i d there ∙ call_led n (get_or calls i d) means (drop (i + 1) calls)

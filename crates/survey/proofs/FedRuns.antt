@@ -8,25 +8,26 @@ use Rattle.records.specs.declared.fault.RecordFault.{RecordFault}
 use Rattle.runs.specs.Feeding.{after, fed}
 use Rattle.runs.specs.Runs.{Meaning}
 use Rattle.runs.specs.declared.refusal.Refusal.{Refusal}
-use Rattle.rows.specs.RowRuns.{RowStore, cells_of, free_in, meaning_of, need_in, written_in}
+use Rattle.rows.specs.RowRuns.{cells_of, free_in, meaning_of, need_in, written_in}
 use Rattle.rows.specs.Rows.{row_largest}
-use Rattle.stores.proofs.RecordedCalls.{kept_count, written_long}
+use Rattle.rows.specs.declared.rows.Rows.{Rows}
+use Rattle.stores.proofs.RecordedStores.{kept_count, written_long}
 use Rattle.runfiles.specs.Offers.{answer_to, cells_after, meaning_after, offer_answer, offer_of, offered_answer, refusal_for}
 use Rattle.runfiles.specs.declared.fault.RunFault.{RunFault}
 use Rattle.survey.specs.Fed.{rows_free, answer_at, meaning_at, fed_on, fed_from}
 
-module _ (r : RowStore) where
-  used_rows : r.head.used ≡ r.head.count * (r.head.shape.width + 1)
-  used_rows = sym (length-take-le r.head.used (cells_of r) r.within) ∙ r.kept
+module _ (r : Rows) where
+  used_rows : r.store.head.used ≡ r.store.head.count * (r.store.head.shape.width + 1)
+  used_rows = sym (length-take-le r.store.head.used (cells_of r) r.store.within) ∙ r.store.kept
 
   pub free_is : free_in r ≡ rows_free (length (cells_of r)) (meaning_of r)
   free_is =
-      ap (λ n. cond (leb 4096 r.head.count) 0 (length (cells_of r) - n)) used_rows
-      ∙ ap (λ k. cond (leb 4096 k) 0 (length (cells_of r) - k * (r.head.shape.width + 1))) (sym (kept_count r))
+      ap (λ n. cond (leb 4096 r.store.head.count) 0 (length (cells_of r) - n)) used_rows
+      ∙ ap (λ k. cond (leb 4096 k) 0 (length (cells_of r) - k * (r.store.head.shape.width + 1))) (sym (kept_count r.store))
 
   taken_cells : (f : Firsts ℤ) (refused : Option Refusal) → refusal_for row_largest (free_in r) (need_in r) (meaning_of r) f ≡ refused → length (after refused (cells_of r) (written_in r (offer_of f))) ≡ length (cells_of r)
   taken_cells f (Some x) e = refl
-  taken_cells f None e = written_long r (offer_of f) e
+  taken_cells f None e = written_long r.store (offer_of f) e
 
   -- no feed changes the number of cells
   same_cells : (o : Result (Option (Firsts ℤ)) RecordFault) → length (cells_after row_largest (free_in r) (need_in r) (meaning_of r) (cells_of r) (written_in r) o) ≡ length (cells_of r)
@@ -35,34 +36,34 @@ module _ (r : RowStore) where
   same_cells (Ok (Some f)) = taken_cells f _ refl
 
 -- one call of `feed_record` on the rows r, which leaves q, at the cursor c, which it leaves at d
-pub record Fed (bs : List ℕ) (r q : RowStore) (c d : Cursor) (a : Result Bool RunFault) : Type 0 where
+pub record Fed (bs : List ℕ) (r q : Rows) (c d : Cursor) (a : Result Bool RunFault) : Type 0 where
   pub told : a ≡ answer_to row_largest (free_in r) (need_in r) (meaning_of r) (record_at bs c)
   pub means : meaning_of q ≡ meaning_after row_largest (free_in r) (need_in r) (meaning_of r) (record_at bs c)
   pub holds : cells_of q ≡ cells_after row_largest (free_in r) (need_in r) (meaning_of r) (cells_of r) (written_in r) (record_at bs c)
   pub on : d ≡ cond (is_ok a) (behind_record bs c) c
 
 -- a call speaks of the bytes that the reader holds, which stay the same
-pub called : {here bytes : Bor (List ℕ)} (r q : RowStore) (c d : Cursor) (a : Result Bool RunFault) → here ≡ bytes → Fed here.now r q c d a → Fed bytes.now r q c d a
+pub called : {here bytes : Bor (List ℕ)} (r q : Rows) (c d : Cursor) (a : Result Bool RunFault) → here ≡ bytes → Fed here.now r q c d a → Fed bytes.now r q c d a
 called r q c d a same call = subst (λ b. Fed b.now r q c d a) same call
 
 module _ (cells : ℕ) (bs : List ℕ) (most : ℕ) (first : Cursor) (m : Meaning) where
   -- after i turns the rows r keep all records up to the cursor c
-  pub record Sofar (i : ℕ) (c : Cursor) (r : RowStore) : Type 0 where
+  pub record Sofar (i : ℕ) (c : Cursor) (r : Rows) : Type 0 where
     pub whole : fed_from cells bs most first m ≡ fed_from cells bs (most - i) c (meaning_of r)
     pub long : length (cells_of r) ≡ cells
 
-  pub begin : (r : RowStore) → length (cells_of r) ≡ cells → meaning_of r ≡ m → Sofar 0 first r
+  pub begin : (r : Rows) → length (cells_of r) ≡ cells → meaning_of r ≡ m → Sofar 0 first r
   begin r long means = record {
     whole = ap (λ n. fed_from cells bs n first m) (omega arith) ∙ ap (λ n. fed_from cells bs (most - 0) first n) (sym means);
     long = long;
   }
 
-  module _ {i : ℕ} {c : Cursor} {r : RowStore} (old : Sofar i c r) where
+  module _ {i : ℕ} {c : Cursor} {r : Rows} (old : Sofar i c r) where
     pub all_turns : most ≤ i → fed_from cells bs most first m ≡ Ok (meaning_of r)
     unfolding fed_from
     all_turns end = let none : most - i ≡ 0 = omega arith in old.whole ∙ ap (λ n. fed_from cells bs n c (meaning_of r)) none
 
-    module _ {q : RowStore} {d : Cursor} {a : Result Bool RunFault} (on : i < most) (call : Fed bs r q c d a) where
+    module _ {q : Rows} {d : Cursor} {a : Result Bool RunFault} (on : i < most) (call : Fed bs r q c d a) where
       pub as_long : length (cells_of q) ≡ cells
       as_long = ap length call.holds ∙ same_cells r (record_at bs c) ∙ old.long
 

@@ -14,6 +14,7 @@ use Rattle.parts.specs.declared.kinds.Connective.TheVariants.{And, Or, Implies, 
 use Rattle.parts.specs.declared.kinds.Prefix.TheVariants.{Not, Next, Eventually, Always}
 use Rattle.parts.specs.declared.kinds.Quantity.TheVariants.{Value, Change}
 use Rattle.parts.specs.declared.kinds.Window.{Window}
+use Rattle.runs.specs.Moments.{Belongs}
 use Rattle.runs.specs.Runs.{State, endures, value_at}
 use Rattle.runs.specs.declared.shape.Mark.{Mark}
 use Rattle.runs.specs.declared.shape.Mark.TheVariants.{Closed}
@@ -35,7 +36,15 @@ use Rattle.verdicts.specs.declared.verdict.Verdict.TheVariants.{False, True, Und
 use Rattle.verdicts.proofs.ToldVerdicts.{Told, every_told, right, some_told, told_and, told_as, told_not, told_or, until_told, wrong}
 use Rattle.verdicts.proofs.OnlyNumbers.{Only, all_told, only_both, only_mapped}
 
--- whether the last state endures is all that moments ask of a mark
+-- whether the last state endures is all that moments ask of a mark: so of a moment that belongs to a state
+pub belongs_as : (mark other : Mark) → endures other ≡ true → {states : List State} {i t j : ℕ} → Belongs mark states i t j → Belongs other states i t j
+belongs_as mark other closed b = grind arith
+
+-- so of a state that a window visits
+pub visits_as : (mark other : Mark) → endures other ≡ true → {w : Window} {run : List State} {j : ℕ} → Visits mark w run j → Visits other w run j
+visits_as mark other closed v = grind arith
+
+-- so of all of these in their order
 in_order_as : (mark : Mark) → endures mark ≡ true → {w : Window} {run : List State} {js : List ℕ} → InOrder mark w run js → InOrder Closed w run js
 in_order_as mark closed order = grind arith
 

@@ -1,14 +1,14 @@
 -- Whatever feeds and closes follow, a decided verdict stays and the kept states fit the run's shape. Assumes nothing.
-use Rattle.std.proofs.Common.{◌≡◌, ℕ, zero, suc, false, [], ◌∷◌, None, Option, ap, ◌∙◌, inl, inr, arith}
+use Rattle.std.proofs.Common.{◌≡◌, ℕ, zero, suc, false, List, [], ◌∷◌, None, Option, ap, ◌∙◌, inl, inr, arith}
 use Rattle.std.specs.List.{AllByRecursion}
-use Rattle.std.proofs.ByRecursion.{All-push}
+use Rattle.std.proofs.ByRecursion.{All-push, All-weaker}
 use Rattle.std.proofs.lemmas.Bool.{cases_Bool}
 use Rattle.runs.proofs.LastingRuns.{lasting}
 use Rattle.runs.proofs.TakenStates.{taken_lawful}
 use Rattle.runs.specs.Calls.{Step, after_steps, stepped}
 use Rattle.runs.specs.Feeding.{after, fed, state_of, unlawful, with_state}
 use Rattle.runs.specs.Offers.{Offered}
-use Rattle.runs.specs.Runs.{Meaning, Run, State, ended, endures}
+use Rattle.runs.specs.Runs.{Lawful, Meaning, Run, State, ended, endures}
 use Rattle.runs.specs.declared.refusal.Refusal.{Refusal}
 use Rattle.runs.specs.declared.shape.Mark.{Mark}
 use Rattle.runs.specs.declared.shape.Shape.{Shape}
@@ -29,6 +29,10 @@ verdicts_last width largest p h most m steps decided =
       | inr e ↦ ap (verdict p (after_steps most steps m).run.mark) later.states.1
           ∙ verdicts_stay width largest p h m.run.mark (after_steps most steps m).run.mark (not_enduring m.run.mark e) m.run.states later.states.0 decided
     ]
+
+-- from what every recorder keeps of its states (`Sound.lawful`) to what the laws of verdicts ask of them
+pub lawful_fits : (shape : Shape) (largest : ℕ) (states : List State) → AllByRecursion (Lawful shape largest) states → AllByRecursion (Fits shape) states
+lawful_fits shape largest states lawful = All-weaker (Lawful shape largest) (Fits shape) (λ s l. record { stay = l.stay; values = l.values }) states lawful
 
 offered_fits : (shape : Shape) (most : ℕ) (o : Offered) → unlawful shape most o ≡ None → Fits shape (state_of o)
 offered_fits shape most o e = grind arith

@@ -31,11 +31,14 @@ impl ChangeLayout {
         requires { length values.now ≤ 16 }
         ensures { result ≡ length (changes 0 values.now (take (length values.now) self.now.last)) }
     {
-        values
-            .iter()
-            .zip(&self.last)
-            .filter(|(new, old)| **new != i64::from(**old))
-            .count()
+        // A loop: a chain of `zip`, `filter` and `count` took about twice the time, and a feed counts twice.
+        let mut changed = 0;
+        for (v, value) in values.iter().enumerate() {
+            if *value != i64::from(self.last[v]) {
+                changed += 1;
+            }
+        }
+        changed
     }
 
     // Fills the first free cells with a state.

@@ -39,7 +39,7 @@ impl ChangeLayout {
         ensures place { result ≡ place_of filled.entry.cells.now i }
         ensures there { result < length filled.entry.cells.now }
     {
-        let mut at = self.waypoints.preceding(i).place;
+        let mut at = self.waypoints.place_before(i);
         for _state in STRIDE * (i / STRIDE)..i {
             at += 2 + changes_at(filled.cells, at).len();
         }
@@ -54,9 +54,8 @@ impl ChangeLayout {
         requires variable { v < filled.head.shape.width }
         ensures { result ≡ value_before filled.entry.cells.now v (i + 1) }
     {
-        let waypoint = self.waypoints.preceding(i);
-        let mut at = waypoint.place;
-        let mut value = waypoint.values[v];
+        let mut at = self.waypoints.place_before(i);
+        let mut value = self.waypoints.value_before(i, v);
         for _state in STRIDE * (i / STRIDE)..i + 1 {
             let changes = changes_at(filled.cells, at);
             value = value_past(changes, v, value);

@@ -1,8 +1,9 @@
 // Reading the header.
 ghost use Rattle.std.specs.Prelude.{◌≡◌, ℕ, List};
+ghost use Rattle.records.specs.Bytes.{quote};
 ghost use Rattle.records.specs.Cursor.{Seen};
 ghost use Rattle.records.specs.Firsts.{Firsts};
-ghost use Rattle.records.specs.Headers.{behind_header, names_at, title, titles_of};
+ghost use Rattle.records.specs.Headers.{behind_header, holds, names_at, title, titles_of};
 ghost use Rattle.records.specs.RecordFields.{map_ok};
 ghost use Rattle.records.specs.Told.{cursor, firsts, lent, seen_field, told_header};
 
@@ -15,11 +16,18 @@ use super::{Field, Fields};
 // The most bytes that a run file may have.
 pub const LARGEST_FILE: usize = 65_536;
 
+// Whether a quote stands in a text. A search by a test, and no `contains`, so that an edit can turn the test alone.
+fn has_quote(text: &[u8]) -> bool
+    ensures { result ≡ holds text.now quote }
+{
+    text.iter().any(|b| *b == b'"')
+}
+
 // The field, in which no quote may stand.
 fn title_in<'a>(field: Field<'a>) -> Result<Field<'a>, RecordFault>
     ensures { map_ok seen_field result ≡ title (seen_field field.entry) }
 {
-    if field.text.contains(&b'"') {
+    if has_quote(field.text) {
         return Err(RecordFault::Quote(field.at));
     }
     Ok(field)

@@ -1,5 +1,5 @@
 // What a header says.
-ghost use Rattle.std.specs.Prelude.{◌≡◌, length, map};
+ghost use Rattle.std.specs.Prelude.{◌≡◌, bytes_eq, length, map};
 ghost use Rattle.std.specs.Option.{option_map};
 ghost use Rattle.std.specs.List.{slice_get};
 ghost use Rattle.records.specs.Headers.{column_from};
@@ -33,6 +33,11 @@ impl<'a> Header<'a> {
     pub fn column(&self, name: &[u8]) -> Option<usize>
         ensures { result ≡ column_from (names self.now) name.now 0 }
     {
-        self.names().iter().position(|own| *own == name)
+        // The test has a clause of its own, so that a wrong one is refused where it stands.
+        self.names().iter().position(
+            |own|
+                ensures { result ≡ bytes_eq own.now.now name.entry.now }
+            { *own == name },
+        )
     }
 }

@@ -1,9 +1,9 @@
-use Rattle.std.proofs.Common.{◌/◌, ap, ◌∙◌, arith}
+use Rattle.std.proofs.Common.{◌/◌, ◌∙◌, arith}
 use Rattle.changes.proofs.Places.{walk_fits}
 use Rattle.changes.proofs.layout.ChangeLayout.place.Goals as goal
 
 pub loop-state-init : goal.loop-state-init
-loop-state-init c = ap (λ w. w.place) c.preceding-at.ensures ∙ (c.requires.kept.2 (c.args.i / 64) (omega (arith, c.requires.state))).0
+loop-state-init c = c.place_before-at.ensures ∙ (c.requires.kept.2 (c.args.i / 64) (omega (arith, c.requires.state))).0
 
 pub returns-clause-there : goal.returns-clause-there
 returns-clause-there c =

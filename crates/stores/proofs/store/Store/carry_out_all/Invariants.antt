@@ -10,5 +10,5 @@ invariant-loop-call g l =
     let k = g.L.Layout.coding in
     let first = l.initial.self in
     (store_led k (length (cells_of first)) (drop l.call-index l.calls) (meaning_of l.self) ≡ store_led k (length (cells_of first)) l.calls (meaning_of first))
-    × Holds k (cells_of first) (meaning_of l.self) (cells_of l.self)
+    × Holds k.cells (cells_of first) (meaning_of l.self) (cells_of l.self)
     × (l.self.cells.ghost_name ≡ first.cells.ghost_name)
